@@ -1,0 +1,1 @@
+// No code: this crate holds the words that the definitions of the crates above it are made of.

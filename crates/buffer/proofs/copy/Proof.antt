@@ -1,0 +1,78 @@
+use Rattle.buffer.proofs.Laws.{laid-none, length-laid, block-more}
+use lib.ListN.{length, take, drop, getD, set, replicate}
+use Prim.Native.Nat.{ℕ, _≤_, _<_, _+_, _-_, suc}
+use mathlib.Core.Path.{_≡_, refl, sym, ap, _∙_}
+use Rattle.buffer.specs.Buffer.{laid}
+use borrow.Author.Needs.{needs}
+use native.Mathlib.Omega.{arith}
+use Rattle.buffer.proofs.copy.Statement.{statement}
+use Rattle.buffer.proofs.copy.Tie as tie
+use Rattle.buffer.proofs.copy.Reads as reads
+use Rattle.buffer.proofs.copy.Lts as lts
+
+abbrev Inv-loop : tie.InvT-loop
+Inv-loop s from n out₀ pos i₀ out i = (i ≤ n) × (out ≡ laid out₀ pos (take i (drop from s)))
+
+abbrev μ-loop : tie.MeasureT-loop
+μ-loop s from n out₀ pos i₀ out i = n - i
+
+-- src/lib.rt:22:5
+loop-holds : tie.Need-loop-holds Inv-loop μ-loop
+loop-holds c = (omega arith, sym (laid-none _ _))
+
+-- src/lib.rt:23:26
+add-out : tie.Need-add-out Inv-loop μ-loop
+add-out c = omega arith
+
+-- src/lib.rt:23:24
+shared-slice-read-out : tie.Need-shared-slice-read-out Inv-loop μ-loop
+shared-slice-read-out c = omega arith
+
+-- src/lib.rt:23:13
+add-out-2 : tie.Need-add-out-2 Inv-loop μ-loop
+add-out-2 c = omega arith
+
+-- src/lib.rt:23:9
+slice-write-out : tie.Need-slice-write-out Inv-loop μ-loop
+slice-write-out c = let e = ap length (c .before .before .loop .inv .1) ∙ length-laid _ _ _ in omega (arith, e)
+
+-- src/lib.rt:24:9
+add-i : tie.Need-add-i Inv-loop μ-loop
+add-i c = omega arith
+
+-- src/lib.rt:22:5
+loop-less : tie.Need-loop-less Inv-loop μ-loop
+loop-less c = omega arith
+
+-- src/lib.rt:22:5
+loop-again : tie.Need-loop-again Inv-loop μ-loop
+loop-again c =
+    let a = c .before .before .before .args in let i = c .before .before .loop .i in (
+      omega arith,
+      ap (λ z. set z (a .pos + i) (getD (a .s .now) (a .from + i) 0)) (c .before .before .loop .inv .1) ∙ block-more (a .out .now) (a .s .now) (a .pos) (a .from) i (omega arith) (omega arith),
+    )
+
+-- src/lib.rt:17:1
+same-length : tie.Need-same-length Inv-loop μ-loop
+same-length c = ap length (c .before .loop .inv .1) ∙ length-laid _ _ _
+
+-- src/lib.rt:17:1
+returns : tie.Need-returns Inv-loop μ-loop
+returns c = let e : c .before .loop .i ≡ c .before .before .args .n = omega arith in rw (← e) (c .before .loop .inv .1)
+
+pub copy-spec : {M : Type 1} → statement M
+copy-spec =
+    tie.close
+    (tie.spec
+    Inv-loop
+    μ-loop
+    loop-holds
+    add-out
+    shared-slice-read-out
+    add-out-2
+    slice-write-out
+    add-i
+    loop-less
+    loop-again
+    same-length
+    returns)

@@ -1,0 +1,4 @@
+pub mod HeadLaws
+pub mod Fuel
+pub mod ReadLaws
+pub mod WalkLaws

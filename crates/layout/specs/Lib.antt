@@ -1,0 +1,7 @@
+pub mod Limits
+pub mod Tree
+pub mod Heads
+pub mod Read
+pub mod Write
+pub mod Made
+pub mod Walks

@@ -1,0 +1,40 @@
+-- What the walks of `src/` promise, each by a definition of `Read` or `Heads`. Assumes nothing.
+--     Inside at end h         the places of an element's head rise and stay within the container
+--     Within at end depth h   likewise of an item's
+--     Stays at end r          a walk from `at` goes on to a place within the container
+--     Walked, WalkedItems     a walk of a container of elements, of a sequence's items: its answer is the definition's
+use mathlib.Core.Path.{_≡_}
+use mathlib.Core.Bool.{Bool}
+use mathlib.Core.List.{List}
+use Prim.Native.Nat.{ℕ, _+_, _-_, _≤_, _<_}
+use Rattle.layout.specs.Read.{elementsAt, itemsAt, shapeOf}
+use Rattle.layout.specs.declared.Head.{Head}
+use Rattle.layout.specs.declared.Head.the-variants.{Bad, End, Plain, Seq}
+use Rattle.layout.specs.declared.Spot.{Spot}
+use Rattle.layout.specs.declared.Spot.the-variants.{Wrong, Over, Item}
+use Rattle.layout.specs.declared.Shape.{Shape}
+use Rattle.layout.specs.declared.Shape.the-variants.{Fine, Fault}
+
+abbrev pub Inside : ℕ → ℕ → Head → Type 0
+Inside at end (Bad n) = Unit {0}
+Inside at end (End past) = (at ≤ past) × (past ≤ end)
+Inside at end (Plain tag vr body past) = (at + 8 ≤ body) × (body ≤ past) × (past ≤ end) × (tag < 4294967296)
+Inside at end (Seq tag body stop m) = (at + 12 ≤ body) × (body ≤ stop) × (stop ≤ end) × (tag < 4294967296)
+
+abbrev pub Within : ℕ → ℕ → ℕ → Spot → Type 0
+Within at end depth (Wrong n) = Unit {0}
+Within at end depth (Over past) = (at ≤ past) × (past ≤ end)
+Within at end depth (Item body stop m) = (at + 8 ≤ body) × (body ≤ stop) × (stop ≤ end) × (0 < depth)
+
+abbrev pub Stays : ℕ → ℕ → Shape → Type 0
+Stays at end (Fine past) = (at ≤ past) × (past ≤ end)
+Stays at end (Fault n o) = Unit {0}
+
+-- at every bound above the bytes that are left
+pub record Walked (s : List ℕ) (from end : ℕ) (marked : Bool) (depth : ℕ) (r : Shape) : Type 0 where
+  pub stays : Stays from end r
+  pub shape : (k : ℕ) → end - from < k → r ≡ shapeOf (elementsAt k s from end marked depth 0)
+
+pub record WalkedItems (s : List ℕ) (from end : ℕ) (marked : Bool) (depth : ℕ) (r : Shape) : Type 0 where
+  pub stays : Stays from end r
+  pub shape : (k : ℕ) → end - from < k → r ≡ shapeOf (itemsAt k s from end marked depth)

@@ -1,0 +1,67 @@
+-- Laws of `specs/Vr.antt`. What holds of the VRs is proved once over the VR, by one computed test over the 34.
+-- No contract cites this file. Assumes nothing.
+--     known-each        what f is at each of the 34, it is at every known VR
+--     kindOf-unknown    what is not among the 34 is Unknown
+--     kindOf-known      what is not Unknown is among them
+--     kindOf-sequence   SQ alone is Sequence
+--     known-two         the letters of a VR are two bytes
+--     dummyOf-short     a dummy has at most 14 bytes
+use mathlib.Core.Path.{_≡_, refl, sym, _∙_}
+use mathlib.Core.Bool.{Bool, true, false}
+use mathlib.Core.List.{List, [], _∷_, map}
+use Prim.Native.Nat.{ℕ, _≤_, _<_}
+use native.Mathlib.Omega.{arith}
+use lib.Dec.{T, eqb, ltb, leb, ltb→lt, leb→le}
+use lib.ListN.{length, replicate}
+use borrow.Author.Tests.{eqb-true}
+use Rattle.basis.specs.Choice.{pick, among}
+use Rattle.basis.proofs.ChoiceLaws.{among-each, among-less, eqb-less}
+use Rattle.vr.specs.Names.{SQ}
+use Rattle.vr.specs.Vr.{known, long, kindOf, dummyOf}
+use Rattle.vr.specs.declared.Kind.{Kind}
+use Rattle.vr.specs.declared.Kind.the-variants.{Unknown, Short, Long, Sequence}
+
+-- ---- known
+
+pub known-each : {A : Type 0} (f : ℕ → A) (c : A) → map f known ≡ replicate 34 c → (vr : ℕ) → among vr known ≡ true → f vr ≡ c
+known-each f c h vr is = among-each f c vr known h is
+
+pub known-two : (vr : ℕ) → among vr known ≡ true → vr < 65536
+known-two vr is = ltb→lt vr 65536 (rw (known-each (λ v. ltb v 65536) true refl vr is) tt)
+
+-- ---- kindOf
+
+sq-known : among SQ known ≡ true
+unfolding among
+sq-known = refl
+
+long-known : map (λ v. among v known) long ≡ replicate 13 true
+unfolding among
+long-known = refl
+
+pub kindOf-unknown : (vr : ℕ) → among vr known ≡ false → kindOf vr ≡ Unknown
+unfolding kindOf
+kindOf-unknown vr none = rw (eqb-less vr SQ known sq-known none, among-less vr long known long-known none, none)
+
+pub kindOf-known : (vr : ℕ) → (kindOf vr ≡ Unknown → ⊥) → among vr known ≡ true
+kindOf-known vr n = step (among vr known) refl
+  where
+    step : (b : Bool) → among vr known ≡ b → b ≡ true
+    step true e = refl
+    step false e = absurd (n (kindOf-unknown vr e))
+
+pub kindOf-sequence : (vr : ℕ) → kindOf vr ≡ Sequence → vr ≡ SQ
+unfolding kindOf
+kindOf-sequence vr e = step (eqb vr SQ) (among vr long) (among vr known) refl e
+  where
+    step : (a b c : Bool) → eqb vr SQ ≡ a → pick a Sequence (pick b Long (pick c Short Unknown)) ≡ Sequence → vr ≡ SQ
+    step true b c q e = eqb-true vr SQ q
+    step false true c q e = absurd (let z : _≡_ {A = ℕ} 0 1 = cc in omega arith)
+    step false false true q e = absurd (let z : _≡_ {A = ℕ} 0 1 = cc in omega arith)
+    step false false false q e = absurd (let z : _≡_ {A = ℕ} 0 1 = cc in omega arith)
+
+-- ---- dummyOf
+
+pub dummyOf-short : (vr : ℕ) → among vr known ≡ true → length (dummyOf vr) ≤ 14
+unfolding dummyOf among
+dummyOf-short vr is = leb→le (length (dummyOf vr)) 14 (rw (known-each (λ v. leb (length (dummyOf v)) 14) true refl vr is) tt)

@@ -1,0 +1,182 @@
+// What document 01 says of each of the 34 VRs. A VR is the number that its two letters spell, lowest byte first.
+ghost use mathlib.Core.Path.{_≡_};
+ghost use lib.ListN.{length};
+ghost use Rattle.vr.specs.Vr.{kindOf, servedByLists, dummyOf, inRoom};
+
+pub const AE: u64 = 0x4541;
+
+pub const AS: u64 = 0x5341;
+
+pub const AT: u64 = 0x5441;
+
+pub const CS: u64 = 0x5343;
+
+pub const DA: u64 = 0x4144;
+
+pub const DS: u64 = 0x5344;
+
+pub const DT: u64 = 0x5444;
+
+pub const FD: u64 = 0x4446;
+
+pub const FL: u64 = 0x4C46;
+
+pub const IS: u64 = 0x5349;
+
+pub const LO: u64 = 0x4F4C;
+
+pub const LT: u64 = 0x544C;
+
+pub const OB: u64 = 0x424F;
+
+pub const OD: u64 = 0x444F;
+
+pub const OF: u64 = 0x464F;
+
+pub const OL: u64 = 0x4C4F;
+
+pub const OV: u64 = 0x564F;
+
+pub const OW: u64 = 0x574F;
+
+pub const PN: u64 = 0x4E50;
+
+pub const SH: u64 = 0x4853;
+
+pub const SL: u64 = 0x4C53;
+
+pub const SQ: u64 = 0x5153;
+
+pub const SS: u64 = 0x5353;
+
+pub const ST: u64 = 0x5453;
+
+pub const SV: u64 = 0x5653;
+
+pub const TM: u64 = 0x4D54;
+
+pub const UC: u64 = 0x4355;
+
+pub const UI: u64 = 0x4955;
+
+pub const UL: u64 = 0x4C55;
+
+pub const UN: u64 = 0x4E55;
+
+pub const UR: u64 = 0x5255;
+
+pub const US: u64 = 0x5355;
+
+pub const UT: u64 = 0x5455;
+
+pub const UV: u64 = 0x5655;
+
+// The longest dummy, DT's.
+const ROOM: usize = 14;
+
+// How an element's header goes on after its VR.
+pub enum Kind {
+    // no VR of document 01
+    Unknown,
+    // a length of two bytes
+    Short,
+    // two zero bytes and a length of four
+    Long,
+    // as Long, and the value is items
+    Sequence,
+}
+
+pub fn kind_of(vr: u64) -> Kind
+    ensures { λ r. ⌜ r ≡ kindOf vr ⌝ }
+{
+    match vr {
+        SQ => Kind::Sequence,
+        OB | OD | OF | OL | OV | OW | SV | UC | UN | UR | UT | UV => Kind::Long,
+        AE
+        | AS
+        | AT
+        | CS
+        | DA
+        | DT
+        | FD
+        | FL
+        | IS
+        | LO
+        | LT
+        | PN
+        | SH
+        | SL
+        | SS
+        | ST
+        | TM
+        | UI
+        | UL
+        | US => Kind::Short,
+        // apart from CS, its neighbour: numbers side by side in one arm are tested as a range
+        DS => Kind::Short,
+        _ => Kind::Unknown,
+    }
+}
+
+pub fn served_by_lists(vr: u64) -> bool
+    ensures { λ r. ⌜ r ≡ servedByLists vr ⌝ }
+{
+    match vr {
+        AE | AS | CS | DA | DT | IS | LO | LT | PN | SH | ST | TM | UC | UR | UT => true,
+        DS => true,
+        _ => false,
+    }
+}
+
+// A dummy: `len` bytes, and zeros after them.
+pub struct Dummy {
+    pub bytes: [u8; ROOM],
+    pub len: usize,
+}
+
+pub fn dummy_of(vr: u64) -> Dummy
+    ensures { λ r. ⌜ (r .bytes ≡ inRoom (dummyOf vr)) × (r .len ≡ length (dummyOf vr)) ⌝ }
+{
+    match vr {
+        AE | CS | LO | LT | PN | SH | ST | UC | UR | UT => Dummy {
+            bytes: *b"ANON\0\0\0\0\0\0\0\0\0\0",
+            len: 4,
+        },
+        AS => Dummy {
+            bytes: *b"000Y\0\0\0\0\0\0\0\0\0\0",
+            len: 4,
+        },
+        DA => Dummy {
+            bytes: *b"19000101\0\0\0\0\0\0",
+            len: 8,
+        },
+        DT => Dummy {
+            bytes: *b"19000101000000",
+            len: 14,
+        },
+        TM => Dummy {
+            bytes: *b"000000\0\0\0\0\0\0\0\0",
+            len: 6,
+        },
+        DS | IS => Dummy {
+            bytes: *b"0\0\0\0\0\0\0\0\0\0\0\0\0\0",
+            len: 1,
+        },
+        OB | OW | UN | US | SS => Dummy {
+            bytes: [0; ROOM],
+            len: 2,
+        },
+        AT | FL | OF | OL | SL | UL => Dummy {
+            bytes: [0; ROOM],
+            len: 4,
+        },
+        FD | OD | OV | SV | UV => Dummy {
+            bytes: [0; ROOM],
+            len: 8,
+        },
+        _ => Dummy {
+            bytes: [0; ROOM],
+            len: 0,
+        },
+    }
+}
