@@ -1,5 +1,7 @@
 -- Laws of `specs/Choice.antt`, in the form in which the arms of a `match` on a number ask for them. No contract cites this file.
 -- Assumes nothing.
+--     pick-case     what holds of x where the test holds, and of y where it does not, holds of pick b x y
+--     both-true, both-false    what a test of two says of each
 --     arm           what f is at each pattern of an arm, it is in the arm: the test over all of them is computed
 --     among-each    what f is at each of some numbers, it is at a number among them
 --     among-none    a number that is none of the patterns is not among them
@@ -8,14 +10,28 @@
 --     eqb-less      nor is it one of those
 use mathlib.Core.Path.{_≡_, refl, sym, ap, _∙_}
 use mathlib.Core.Logic.{⊎-elim, inl, inr}
-use mathlib.Core.Bool.{Bool, true, false, _||_, false≢true}
+use mathlib.Core.Bool.{Bool, true, false, _&&_, _||_, false≢true}
 use mathlib.Core.List.{List, [], _∷_, _++_, map, head-eq-of-cons-eq, tail-eq-of-cons-eq}
 use Prim.Native.Nat.{ℕ}
 use lib.ListN.{length, replicate}
 use types.Run.{OneOf}
 use lib.Dec.{eqb}
 use borrow.Author.Tests.{ne-eqb, eqb-true}
-use Rattle.basis.specs.Choice.{every, among}
+use Rattle.basis.specs.Choice.{pick, among}
+
+-- ---- pick
+
+pub pick-case : {A : Type 0} (P : A → Type 0) (b : Bool) (x y : A) → (b ≡ true → P x) → (b ≡ false → P y) → P (pick b x y)
+pick-case P true x y f g = f refl
+pick-case P false x y f g = g refl
+
+pub both-true : (a b : Bool) → (a && b) ≡ true → (a ≡ true) × (b ≡ true)
+both-true true b e = (refl, e)
+both-true false b e = absurd (false≢true e)
+
+pub both-false : (a b : Bool) → (a && b) ≡ false → a ≡ true → b ≡ false
+both-false true b e h = e
+both-false false b e h = absurd (false≢true h)
 
 -- ---- the arms of a `match`
 

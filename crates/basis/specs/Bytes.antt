@@ -2,8 +2,9 @@
 --     part s a e           the bytes of s from the place a up to the place e
 --     le2 s i, le4 s i     the number that the two, or four, bytes at i spell
 --     low2 n, low4 n       the two, or four, lowest bytes of n
+--     AllBytes s           each number of s is a byte
 use mathlib.Core.List.{List, [], _∷_}
-use Prim.Native.Nat.{ℕ, _+_, _-_, _*_, _/_, _%_}
+use Prim.Native.Nat.{ℕ, _+_, _-_, _*_, _/_, _%_, _<_}
 use lib.ListN.{take, drop, getD}
 
 abbrev pub part : List ℕ → ℕ → ℕ → List ℕ
@@ -20,3 +21,6 @@ low2 n = n % 256 ∷ n / 256 % 256 ∷ []
 
 abbrev pub low4 : ℕ → List ℕ
 low4 n = n % 256 ∷ n / 256 % 256 ∷ n / 65536 % 256 ∷ n / 16777216 % 256 ∷ []
+
+abbrev pub AllBytes : List ℕ → Type 0
+AllBytes s = (i : ℕ) → getD s i 0 < 256

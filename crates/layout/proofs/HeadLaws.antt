@@ -1,5 +1,6 @@
 -- Laws of `specs/Heads.antt`. No contract cites this file. Assumes nothing.
 --     lengthFault-none    a length without fault is even and stays within its container
+--     lengthFault-number  a fault's number is one of document 01's
 --     vrHead-..           the rest of an element's head, by the kind of its VR
 --     apart               eight bytes before its end a container does not end
 use mathlib.Core.Path.{_≡_, refl, sym, _∙_}
@@ -26,6 +27,15 @@ lengthFault-none n left e = step (eqb (n % 2) 0) (ltb left n) refl refl e
     step true true p q e = absurd (omega arith)
     step true false p q e = (eqb-true (n % 2) 0 p, ltb-false left n q)
     step false b p q e = absurd (omega arith)
+
+pub lengthFault-number : (n left : ℕ) → (lengthFault n left ≡ 0 → ⊥) → (6 ≤ lengthFault n left) × (lengthFault n left ≤ 10)
+unfolding lengthFault
+lengthFault-number n left e = step (eqb (n % 2) 0) (ltb left n) e
+  where
+    step : (a b : Bool) → (_≡_ {A = ℕ} (pick a (pick b 6 0) 9) 0 → ⊥) → (6 ≤ pick a (pick b 6 0) 9) × (pick a (pick b 6 0) 9 ≤ 10)
+    step true true e = (omega arith, omega arith)
+    step true false e = absurd (e refl)
+    step false b e = (omega arith, omega arith)
 
 -- the same of a fault that the code found
 pub fault-none : (n left : ℕ) {f : ℕ} → f ≡ lengthFault n left → f ≡ 0 → n ≤ left

@@ -1,7 +1,7 @@
 -- The bytes of a data set as the station writes it: document 01, Layout, 1st and 2nd points, and "What each action writes", the
 -- paragraph on sequences: one with items has undefined length, and so have its items, each with its end mark; one without has length 0.
 --     tagBytes tag, mark tag      a tag; an item or end mark with its length of four bytes
---     header tag vr n             the header of an element with a value of n bytes, by the VR's kind
+--     header tag vr n             the header of an element with a value of n bytes: short or long, by the VR's kind
 --     opened k, closed k          k with an item's tag, or its end mark, in front
 --     put.. k                     the bytes of the thing, followed by k
 --     bytesOf d                   the bytes of the data set d
@@ -22,14 +22,20 @@ tagBytes tag = low2 (tag / 65536) ++ low2 tag
 unfoldable pub mark : ℕ → ℕ → List ℕ
 mark tag n = tagBytes tag ++ low4 n
 
--- a long header's end: two zero bytes and a length of four
-abbrev pub longLength : ℕ → List ℕ
-longLength n = 0 ∷ 0 ∷ low4 n
+-- a length of two bytes; two zero bytes and a length of four
+abbrev pub shortHeader : ℕ → ℕ → ℕ → List ℕ
+shortHeader tag vr n = tagBytes tag ++ (low2 vr ++ low2 n)
+
+abbrev pub longHeader : ℕ → ℕ → ℕ → List ℕ
+longHeader tag vr n = tagBytes tag ++ (low2 vr ++ (0 ∷ 0 ∷ low4 n))
 
 unfoldable pub header : ℕ → ℕ → ℕ → List ℕ
 header tag vr n =
-    tagBytes tag ++ low2 vr ++
-    elim (kindOf vr) [ Unknown ↦ low2 n | Short ↦ low2 n | Long ↦ longLength n | Sequence ↦ longLength n ]
+    elim (kindOf vr) [
+      Unknown ↦ shortHeader tag vr n
+    | Short ↦ shortHeader tag vr n
+    | Long ↦ longHeader tag vr n
+    | Sequence ↦ longHeader tag vr n ]
 
 -- an item's bytes, with its tag in front; what follows an item, with its end mark in front
 abbrev pub opened : List ℕ → List ℕ
@@ -44,7 +50,7 @@ unfoldable mutual
   putElements (elem l tag vr f es) k = putField tag vr f (putElements es k)
 
   pub putField : {L : Type 0} → ℕ → ℕ → Field L → List ℕ → List ℕ
-  putField tag vr (value v) k = header tag vr (length v) ++ v ++ k
+  putField tag vr (value v) k = header tag vr (length v) ++ (v ++ k)
   putField tag vr (items is) k = putSequence tag vr is k
 
   pub putSequence : {L : Type 0} → ℕ → ℕ → Items L → List ℕ → List ℕ

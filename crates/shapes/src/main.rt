@@ -1,0 +1,22 @@
+// Shape cases: each refusal 6 to 10 at each of its places, in stated and in undefined containers, the limits of depth, and long
+// levels. A case's name is its damage; what it must print stands in `stdout`, written from document 01 and the readings.
+mod pieces;
+mod report;
+mod elements;
+mod items;
+mod wholes;
+
+fn main() {
+    wholes::fine();
+    elements::short();
+    elements::tags();
+    elements::vrs();
+    elements::lengths();
+    items::short();
+    items::tags();
+    items::lengths();
+    wholes::ends();
+    wholes::depths();
+    wholes::depths_elsewhere();
+    wholes::long();
+}
