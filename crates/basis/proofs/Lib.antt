@@ -1,3 +1,4 @@
 pub mod ChoiceLaws
 pub mod BytesLaws
+pub mod PiecesLaws
 pub mod PartsLaws

@@ -10,5 +10,5 @@ use lib.ListN.{take, drop}
 use Rattle.basis.specs.Parts.{IsPart}
 
 pub is-part : (s : RefT (List ℕ)) (a e : ℕ) (g : GName)
-    → IsPart (record { ptr = (s .ptr .0, a + s .ptr .1); name = g; now = take (e - a) (drop a (s .now)) }) s a (e - a)
+    → IsPart (record { ptr = (s .ptr .0, a + s .ptr .1); name = g; now = take (e - a) (drop a (s .now)) }) s a e
 is-part s a e g = record { block = refl; start = add-comm _ _; bytes = refl }

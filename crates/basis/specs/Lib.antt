@@ -1,3 +1,5 @@
 pub mod Choice
 pub mod Bytes
+pub mod Text
+pub mod Pieces
 pub mod Parts

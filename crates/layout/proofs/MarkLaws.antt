@@ -38,7 +38,7 @@ pub record At (s : List ℕ) (at : ℕ) (xs : List ℕ) : Type 0 where
 pub at-next : {s : List ℕ} {at : ℕ} (hs xs : List ℕ) → At s at (hs ++ xs) → At s (at + length hs) xs
 at-next {s} {at} hs xs h = record {
   rest = sym (drop-drop (length hs) at s) ∙ ap (drop (length hs)) (h .rest) ∙ drop-append-seam hs xs;
-  size = let l : length (hs ++ xs) ≡ length hs + length xs = length-append hs xs in omega (arith, h .size)
+  size = let l : length (hs ++ xs) ≡ length hs + length xs = length-append hs xs in omega (arith, h .size);
 }
 
 get-at : {s : List ℕ} {at : ℕ} {xs : List ℕ} → At s at xs → (i : ℕ) → getD s (at + i) 0 ≡ getD xs i 0
@@ -139,7 +139,7 @@ module _ (s : List ℕ) (at : ℕ) (marked : Bool) (low tag vr : ℕ) (rises : l
       → At s at (tagBytes tag ++ (low2 vr ++ (0 ∷ 0 ∷ (low4 n ++ xs))))
       → (elementHead s at (length s) marked low ≡ vrHead s at (length s) tag vr)
       × (longHead s at (length s) tag vr holds
-        ≡ pick holds (sequenceHead tag (at + 12) (length s) n) (valueHead tag vr (at + 12) (length s) n))
+      ≡ pick holds (sequenceHead tag (at + 12) (length s) n) (valueHead tag vr (at + 12) (length s) n))
       × (at + (12 + length xs) ≡ length s)
   unfolding longHead
   long-head n xs holds two lt b =

@@ -88,14 +88,14 @@ module _ (s : List ℕ) (j at : ℕ) (marked : Bool) (depth low tag : ℕ) (left
   unfolding bare bareField
   value-step vr body v lt h e =
       let b = next (body + length v) (at-next v k h) (omega arith) in record {
-    found = elem (placed at body (body + length v)) tag vr (value (part s body (body + length v))) (b .found);
-    past = b .past;
-    reads = at-plain s at (length s) marked depth low j tag vr body (body + length v) (sym e)
-        ∙ ap (with (elem (placed at body (body + length v)) tag vr (value (part s body (body + length v))))) (b .reads);
-    same = ap₂ (λ x y. elem tt tag vr (value x) y) (part-at v k h) (b .same);
-    up = omega (arith, b .up);
-    here = b .here
-  }
+        found = elem (placed at body (body + length v)) tag vr (value (part s body (body + length v))) (b .found);
+        past = b .past;
+        reads = at-plain s at (length s) marked depth low j tag vr body (body + length v) (sym e)
+            ∙ ap (with (elem (placed at body (body + length v)) tag vr (value (part s body (body + length v))))) (b .reads);
+        same = ap₂ (λ x y. elem tt tag vr (value x) y) (part-at v k h) (b .same);
+        up = omega (arith, b .up);
+        here = b .here;
+      }
 
   -- a sequence, once its items were read
   items-step : (body stop : ℕ) (m : Bool) (is : Items (Unit {0})) → at < body → elementHead s at (length s) marked low ≡ Seq tag body stop m
@@ -104,15 +104,15 @@ module _ (s : List ℕ) (j at : ℕ) (marked : Bool) (depth low tag : ℕ) (left
   unfolding bare bareField
   items-step body stop m is lt e q =
       let b = next (q .past) (q .here) (omega (arith, q .here .size, q .up)) in record {
-    found = elem (placed at body (q .past)) tag SQ (items (q .found)) (b .found);
-    past = b .past;
-    reads = at-seq s at (length s) marked depth low j tag body stop m (sym e)
-        ∙ ap (λ r. after r (λ is p. with (elem (placed at body p) tag SQ (items is)) (elementsAt j s p (length s) marked depth (tag + 1)))) (q .reads)
-        ∙ ap (with (elem (placed at body (q .past)) tag SQ (items (q .found)))) (b .reads);
-    same = ap₂ (λ x y. elem tt tag SQ (items x) y) (q .same) (b .same);
-    up = omega (arith, q .up, b .up);
-    here = b .here
-  }
+        found = elem (placed at body (q .past)) tag SQ (items (q .found)) (b .found);
+        past = b .past;
+        reads = at-seq s at (length s) marked depth low j tag body stop m (sym e)
+            ∙ ap (λ r. after r (λ is p. with (elem (placed at body p) tag SQ (items is)) (elementsAt j s p (length s) marked depth (tag + 1)))) (q .reads)
+            ∙ ap (with (elem (placed at body (q .past)) tag SQ (items (q .found)))) (b .reads);
+        same = ap₂ (λ x y. elem tt tag SQ (items x) y) (q .same) (b .same);
+        up = omega (arith, q .up, b .up);
+        here = b .here;
+      }
 
 -- ---- the items of a sequence, one at a time
 
@@ -124,15 +124,15 @@ module _ (s : List ℕ) (j at depth : ℕ) (es : Data) (is : Items (Unit {0})) (
   unfolding bareItems
   item-step pos left e one next =
       let b = next (one .past) (one .here) (omega (arith, one .here .size, one .up)) in record {
-    found = item (one .found) (b .found);
-    past = b .past;
-    reads = at-item s at (length s) true depth j (at + 8) (length s) true (sym e)
-        ∙ ap (λ r. after r (λ es p. with (item es) (itemsAt j s p (length s) true depth))) (one .reads)
-        ∙ ap (with (item (one .found))) (b .reads);
-    same = ap₂ item (one .same) (b .same);
-    up = omega (arith, one .up, b .up);
-    here = b .here
-  }
+        found = item (one .found) (b .found);
+        past = b .past;
+        reads = at-item s at (length s) true depth j (at + 8) (length s) true (sym e)
+            ∙ ap (λ r. after r (λ es p. with (item es) (itemsAt j s p (length s) true depth))) (one .reads)
+            ∙ ap (with (item (one .found))) (b .reads);
+        same = ap₂ item (one .same) (b .same);
+        up = omega (arith, one .up, b .up);
+        here = b .here;
+      }
 
 -- ---- the whole tree
 
@@ -160,6 +160,7 @@ value-back s j at marked depth low tag vr v left rises may even fits d k xs next
   where
     le : length v ≤ length (v ++ k)
     le = rw (length-append v k) (omega arith)
+
     step : (kind : Kind) → kindOf vr ≡ kind → length v < room vr
         → Back bare (elementsAt (suc j) s at (length s) marked depth low) (elem tt tag vr (value v) d) s at xs
     step Unknown e f = absurd (let z : length v < 0 = rw (room-unknown vr e) at f in omega arith)
@@ -179,13 +180,13 @@ empty-back-items : (s : List ℕ) (f at depth : ℕ) (xs : List ℕ) → 0 < f �
 unfolding bareItems itemHead
 empty-back-items s f at depth xs pos h =
     fuelled (λ g. Back bareItems (itemsAt g s at (at + 0) false depth) none s at xs) 0 f pos (λ g _. record {
-  found = none;
-  past = at;
-  reads = at-over s at (at + 0) false depth g at (rw (eq-eqb at (at + 0) (omega arith)));
-  same = refl;
-  up = omega arith;
-  here = h
-})
+      found = none;
+      past = at;
+      reads = at-over s at (at + 0) false depth g at (rw (eq-eqb at (at + 0) (omega arith)));
+      same = refl;
+      up = omega arith;
+      here = h;
+    })
 
 -- an item and those after it: ys are the bytes of its elements and all that follows, ks those after its end mark
 item-whole : (s : List ℕ) (f at depth : ℕ) (es : Data) (is : Items (Unit {0})) (ys ks xs : List ℕ) → length s - at < f → 0 < depth → At s at (opened ys)
@@ -205,13 +206,13 @@ over-whole : (s : List ℕ) (f at depth : ℕ) (xs : List ℕ) → length s - at
 unfolding bareItems mark
 over-whole s f at depth xs left h =
     fuelled (λ g. Back bareItems (itemsAt g s at (length s) true depth) none s at xs) (length s - at) f left (λ g q. record {
-  found = none;
-  past = at + 8;
-  reads = at-over s at (length s) true depth g (at + 8) (sym (sequenceEnd-back s at xs depth h));
-  same = refl;
-  up = omega arith;
-  here = past (mark sequenceEnd 0) xs 8 refl h
-})
+      found = none;
+      past = at + 8;
+      reads = at-over s at (length s) true depth g (at + 8) (sym (sequenceEnd-back s at xs depth h));
+      same = refl;
+      up = omega arith;
+      here = past (mark sequenceEnd 0) xs 8 refl h;
+    })
 
 -- no more elements
 nil-whole : (s : List ℕ) (f at : ℕ) (marked : Bool) (depth low : ℕ) (rest xs : List ℕ) → length s - at < f → At s at rest → Ends s marked rest xs
@@ -220,13 +221,13 @@ unfolding bare
 nil-whole s f at marked depth low rest xs left h ends =
     let e = ends at low h in
     fuelled (λ g. Back bare (elementsAt g s at (length s) marked depth low) nil s at xs) (length s - at) f left (λ g q. record {
-  found = nil;
-  past = e .0;
-  reads = at-end s at (length s) marked depth low g (e .0) (sym (e .1));
-  same = refl;
-  up = e .2;
-  here = e .3
-})
+      found = nil;
+      past = e .0;
+      reads = at-end s at (length s) marked depth low g (e .0) (sym (e .1));
+      same = refl;
+      up = e .2;
+      here = e .3;
+    })
 
 mutual
   unfolding Made MadeField MadeItems putElements putField putSequence putItems bare bareField bareItems
@@ -282,12 +283,12 @@ unfolding read bytesOf
 read-bytesOf depth d m =
     let s : List ℕ = putElements d [] in
     let b : Back bare (elementsAt (suc (length s)) s 0 (length s) false depth 0) (bare d) s 0 [] =
-      back-elements d (suc (length s)) s 0 false depth 0 [] [] m (record { rest = refl; size = omega arith }) (omega arith) (data-ends s) in
+    back-elements d (suc (length s)) s 0 false depth 0 [] [] m (record { rest = refl; size = omega arith }) (omega arith) (data-ends s) in
     ap (with bare) (b .reads) ∙ ap₂ good (b .same) (omega (arith, b .here .size))
 
 pub bytesOf-inj : (depth : ℕ) (d e : Data) → Made depth 0 d → Made depth 0 e → bytesOf d ≡ bytesOf e → d ≡ e
 bytesOf-inj depth d e m n q =
     let r : good (bare d) (length (bytesOf d)) ≡ good (bare e) (length (bytesOf e)) =
-      sym (read-bytesOf depth d m) ∙ ap (λ s. with bare (read depth s)) q ∙ read-bytesOf depth e n in
+    sym (read-bytesOf depth d m) ∙ ap (λ s. with bare (read depth s)) q ∙ read-bytesOf depth e n in
     let i : bare d ≡ bare e = cc in
     sym (bare-bare d) ∙ i ∙ bare-bare e

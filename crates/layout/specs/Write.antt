@@ -32,10 +32,11 @@ longHeader tag vr n = tagBytes tag ++ (low2 vr ++ (0 ∷ 0 ∷ low4 n))
 unfoldable pub header : ℕ → ℕ → ℕ → List ℕ
 header tag vr n =
     elim (kindOf vr) [
-      Unknown ↦ shortHeader tag vr n
-    | Short ↦ shortHeader tag vr n
-    | Long ↦ longHeader tag vr n
-    | Sequence ↦ longHeader tag vr n ]
+      | Unknown ↦ shortHeader tag vr n
+      | Short ↦ shortHeader tag vr n
+      | Long ↦ longHeader tag vr n
+      | Sequence ↦ longHeader tag vr n
+    ]
 
 -- an item's bytes, with its tag in front; what follows an item, with its end mark in front
 abbrev pub opened : List ℕ → List ℕ

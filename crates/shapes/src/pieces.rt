@@ -5,6 +5,7 @@ ghost use Prim.Native.Nat.{_≤_};
 ghost use lib.ListN.{length};
 
 pub const ROOM: usize = 900000;
+
 pub const UNDEFINED: usize = 0xFFFF_FFFF;
 
 // Room for the longest case, and for the others.
@@ -17,7 +18,9 @@ pub fn desk() -> [u8; 1024] {
 }
 
 const ITEM: u64 = 0xFFFE_E000;
+
 const ITEM_END: u64 = 0xFFFE_E00D;
+
 const SEQUENCE_END: u64 = 0xFFFE_E0DD;
 
 // The header of an element that states the length `n`; its value, if it has one, is written next.

@@ -67,7 +67,9 @@ lengthOf Absent = 0
 lengthOf (Refused n o) = 0
 
 abbrev pub Shows : Answer → RefT (List ℕ) → RefT (List ℕ) → Type 0
-Shows a r lent = IsPart r lent (startOf a) (lengthOf a)
+Shows (Found body past) r lent = IsPart r lent body past
+Shows Absent r lent = IsPart r lent 0 0
+Shows (Refused n o) r lent = IsPart r lent 0 0
 
 abbrev pub Fits : ℕ → Answer → Type 0
 Fits n (Found body past) = (body ≤ past) × (past ≤ n)

@@ -11,6 +11,7 @@ use Prim.Native.Nat.{ℕ, _-_}
 use lib.Dec.{eqb}
 use lib.ListN.{length, replicate}
 use Rattle.basis.specs.Choice.{pick, among}
+use Rattle.basis.specs.Text.{ascii}
 use Rattle.vr.specs.Names.{AE, AS, AT, CS, DA, DS, DT, FD, FL, IS, LO, LT, OB, OD, OF, OL, OV, OW, PN, SH, SL, SQ, SS, ST, SV, TM, UC, UI, UL, UN, UR, US, UT, UV}
 use Rattle.vr.specs.declared.Kind.{Kind}
 use Rattle.vr.specs.declared.Kind.the-variants.{Unknown, Short, Long, Sequence}
@@ -39,17 +40,14 @@ unfoldable pub servedByLists : ℕ → Bool
 servedByLists vr = among vr served
 
 -- Document 01, What each action writes, 2nd paragraph: the dummies, in its order
-abbrev pub anon : List ℕ
-anon = 0x41 ∷ 0x4E ∷ 0x4F ∷ 0x4E ∷ []
-
 unfoldable pub dummyOf : ℕ → List ℕ
 dummyOf vr =
-    pick (among vr (AE ∷ CS ∷ LO ∷ LT ∷ PN ∷ SH ∷ ST ∷ UC ∷ UR ∷ UT ∷ [])) anon
-    (pick (eqb vr AS) (0x30 ∷ 0x30 ∷ 0x30 ∷ 0x59 ∷ [])
-    (pick (eqb vr DA) (0x31 ∷ 0x39 ∷ 0x30 ∷ 0x30 ∷ 0x30 ∷ 0x31 ∷ 0x30 ∷ 0x31 ∷ [])
-    (pick (eqb vr DT) (0x31 ∷ 0x39 ∷ 0x30 ∷ 0x30 ∷ 0x30 ∷ 0x31 ∷ 0x30 ∷ 0x31 ∷ 0x30 ∷ 0x30 ∷ 0x30 ∷ 0x30 ∷ 0x30 ∷ 0x30 ∷ [])
-    (pick (eqb vr TM) (0x30 ∷ 0x30 ∷ 0x30 ∷ 0x30 ∷ 0x30 ∷ 0x30 ∷ [])
-    (pick (among vr (DS ∷ IS ∷ [])) (0x30 ∷ [])
+    pick (among vr (AE ∷ CS ∷ LO ∷ LT ∷ PN ∷ SH ∷ ST ∷ UC ∷ UR ∷ UT ∷ [])) (ascii "ANON")
+    (pick (eqb vr AS) (ascii "000Y")
+    (pick (eqb vr DA) (ascii "19000101")
+    (pick (eqb vr DT) (ascii "19000101000000")
+    (pick (eqb vr TM) (ascii "000000")
+    (pick (among vr (DS ∷ IS ∷ [])) (ascii "0")
     (pick (among vr (OB ∷ OW ∷ UN ∷ US ∷ SS ∷ [])) (replicate 2 0)
     (pick (among vr (AT ∷ FL ∷ OF ∷ OL ∷ SL ∷ UL ∷ [])) (replicate 4 0)
     (pick (among vr (FD ∷ OD ∷ OV ∷ SV ∷ UV ∷ [])) (replicate 8 0)

@@ -1,0 +1,6 @@
+pub mod Truth
+pub mod TableLaws
+pub mod RulesLaws
+pub mod OverrideLaws
+pub mod ActionLaws
+pub mod Cases

@@ -1,0 +1,14 @@
+-- `table::cleans_dates` meets its contract. Assumes nothing.
+use borrow.Author.Tests.{ne-eqb}
+use Rattle.table.proofs.OverrideLaws.{cleansDates-chosen}
+use Rattle.table.proofs.cleans_dates.Statement.{statement}
+use Rattle.table.proofs.cleans_dates.Tie as tie
+
+returns : tie.Need-returns
+returns c = cleansDates-chosen _ _ (c .if1 .taken)
+
+returns-2 : tie.Need-returns-2
+returns-2 c = simp (ne-eqb _ _ (c .if1 .left))
+
+pub cleans-dates-spec : {M : Type 1} → statement M
+cleans-dates-spec = tie.close (tie.spec returns returns-2)

@@ -1,0 +1,5 @@
+pub mod Rows
+pub mod Table
+pub mod Rules
+pub mod Override
+pub mod Action
