@@ -1,0 +1,11 @@
+pub mod SpansLaws
+pub mod Closed
+pub mod DatesLaws
+pub mod Signs
+pub mod PartLaws
+pub mod TextLaws
+pub mod ValuesLaws
+pub mod Walks
+pub mod Judging
+pub mod Writing
+pub mod Cases

@@ -1,0 +1,75 @@
+use mathlib.Core.Path.{ap}
+use Prim.Native.Nat.{_+_, _-_}
+use Rattle.calendar.specs.Dates.{lastYear, yearLen}
+use Rattle.calendar.proofs.SpansLaws.{before-one, within-below}
+use Rattle.calendar.proofs.Closed.{month-in}
+use Rattle.calendar.proofs.DatesLaws.{date-within}
+use native.Mathlib.Omega.{arith}
+use borrow.Author.Needs.{needs}
+use Rattle.calendar.proofs.date_of.Statement.{statement}
+use Rattle.calendar.proofs.date_of.Tie as tie
+use Rattle.calendar.proofs.date_of.Reads as reads
+use Rattle.calendar.proofs.date_of.Lts as lts
+use Rattle.calendar.proofs.before_month.Reads as before-month-reads
+use Rattle.calendar.proofs.before_year.Reads as before-year-reads
+use Rattle.calendar.proofs.month_of.Reads as month-of-reads
+use Rattle.calendar.proofs.year_of.Reads as year-of-reads
+
+-- src/lib.rt:124:9
+year-of-requires : tie.Need-year-of-requires
+year-of-requires c κs = search needs
+
+-- src/lib.rt:125:17
+before-year-requires : tie.Need-before-year-requires
+before-year-requires c κs =
+    let y = c .year-of .result in
+    omega (arith, within-below yearLen (c .before .args .n) y (lastYear + 1) (c .year-of .ensures .0) (c .before .pre .1))
+
+-- src/lib.rt:125:13
+sub-i : tie.Need-sub-i
+sub-i c = search needs
+
+-- src/lib.rt:126:9
+month-of-requires : tie.Need-month-of-requires
+month-of-requires c κs =
+    let w = c .before .year-of .ensures in
+    omega (arith, w .0, w .1, c .before-year .ensures, before-one yearLen (c .before .year-of .result))
+
+-- src/lib.rt:127:40
+before-month-requires : tie.Need-before-month-requires
+before-month-requires c κs =
+    let at-year-of = c .before .before in
+    let at-start = at-year-of .before in
+    let y = at-year-of .year-of .result in
+    let w = at-year-of .year-of .ensures in
+    let i = at-start .args .n - c .before .before-year .result in
+    omega (arith, month-in y i (c .month-of .result) (omega (arith, w .0, c .before .before-year .ensures))
+      (omega (arith, w .1, c .before .before-year .ensures, before-one yearLen y))
+      (c .month-of .ensures))
+
+-- src/lib.rt:127:36
+sub-t6 : tie.Need-sub-t6
+sub-t6 c = search needs
+
+-- src/lib.rt:120:1
+returns : tie.Need-returns
+returns c =
+    let at-before-year = c .before .before in
+    let at-year-of = at-before-year .before in
+    let at-start = at-year-of .before in
+    let n = at-start .args .n in
+    date-within n (n - at-before-year .before-year .result) _ (at-start .pre .1) (at-year-of .year-of .ensures)
+      (ap (λ k. n - k) (at-before-year .before-year .ensures)) (c .before .month-of .ensures)
+    (ap (λ k. n - at-before-year .before-year .result - k) (c .before-month .ensures))
+
+pub date-of-spec : {M : Type 1} → statement M
+date-of-spec =
+    tie.close
+    (tie.spec
+    year-of-requires
+    before-year-requires
+    sub-i
+    month-of-requires
+    before-month-requires
+    sub-t6
+    returns)

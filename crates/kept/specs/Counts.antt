@@ -1,0 +1,61 @@
+-- The four counts, on the input alone: document 01, "Kept content and the four counts", 2nd paragraph; readings K11 and K12.
+-- Laws: `proofs/CountsLaws.antt`. Assumes nothing.
+--     Counts                  kept, replaced, renamed, removed
+--     one φ                   the count of one element of this fate
+--     plus a b                both together
+--     countsOf es s level     those of the elements es of a level, with the items that are walked into
+use Prim.Native.Nat.{ℕ, _+_}
+use Rattle.layout.specs.Tree.{Field, value, items, Elements, nil, elem, Items, none as noItem, item}
+use Rattle.kept.specs.Settings.{Settings}
+use Rattle.kept.specs.Fates.{Level, Fate, removed, kept, walked, emptied, dummied, renamed, shifted, wrong, fate, below}
+
+pub record Counts : Type 0 where
+  pub stayed : ℕ
+  pub replaced : ℕ
+  pub renamings : ℕ
+  pub removals : ℕ
+
+abbrev pub counts : ℕ → ℕ → ℕ → ℕ → Counts
+counts a b c d = record { stayed = a; replaced = b; renamings = c; removals = d }
+
+abbrev pub nothing : Counts
+nothing = counts 0 0 0 0
+
+abbrev pub plus : Counts → Counts → Counts
+plus a b = counts (a .stayed + b .stayed) (a .replaced + b .replaced) (a .renamings + b .renamings) (a .removals + b .removals)
+
+-- a walked sequence is kept; shifted elements, empty or not, are replaced (K12)
+abbrev pub one : Fate → Counts
+one removed = counts 0 0 0 1
+one kept = counts 1 0 0 0
+one walked = counts 1 0 0 0
+one emptied = counts 0 1 0 0
+one dummied = counts 0 1 0 0
+one renamed = counts 0 0 1 0
+one shifted = counts 0 1 0 0
+one wrong = counts 1 0 0 0
+
+-- what is inside a sequence counts where it is walked into
+abbrev pub inside : Counts → Fate → Counts
+inside c removed = nothing
+inside c kept = nothing
+inside c walked = c
+inside c emptied = nothing
+inside c dummied = nothing
+inside c renamed = nothing
+inside c shifted = nothing
+inside c wrong = nothing
+
+unfoldable mutual
+  pub countsField : {L : Type 0} → Field L → Settings → Level → Fate → Counts
+  countsField (value v) s level φ = nothing
+  countsField (items is) s level φ = inside (countsItems is s (below level)) φ
+
+  pub countsOf : {L : Type 0} → Elements L → Settings → Level → Counts
+  countsOf nil s level = nothing
+  countsOf (elem l tag vr f es) s level =
+      plus (one (fate s level tag vr)) (plus (countsField f s level (fate s level tag vr)) (countsOf es s level))
+
+  pub countsItems : {L : Type 0} → Items L → Settings → Level → Counts
+  countsItems noItem s level = nothing
+  countsItems (item es is) s level = plus (countsOf es s level) (countsItems is s level)

@@ -1,0 +1,10 @@
+pub mod Settings
+pub mod Fates
+pub mod Content
+pub mod Kept
+pub mod Numbering
+pub mod Fillers
+pub mod Marks
+pub mod Written
+pub mod Counts
+pub mod Faults

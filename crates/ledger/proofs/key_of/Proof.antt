@@ -1,0 +1,22 @@
+-- `key_of` meets its contract: the UID is written over zeros. Assumes nothing.
+use mathlib.Core.Path.{_∙_}
+use Rattle.ledger.proofs.SlotLaws.{slotOf-laid}
+use native.Mathlib.Omega.{arith}
+use borrow.Author.Needs.{needs}
+use Rattle.ledger.proofs.key_of.Statement.{statement}
+use Rattle.ledger.proofs.key_of.Tie as tie
+
+sub-copy : tie.Need-sub-copy
+sub-copy c = search needs
+
+slice-aggregate-copy : tie.Need-slice-aggregate-copy
+slice-aggregate-copy c = search needs
+
+copy-requires : tie.Need-copy-requires
+copy-requires c κs = search needs
+
+returns : tie.Need-returns
+returns c = c .before .copy .ensures ∙ slotOf-laid (c .before .before .before .before .args .s .now) (c .before .before .before .before .args .from) (c .before .before .before .before .args .to) (omega arith) (omega arith)
+
+pub key-of-spec : {M : Type 1} → statement M
+key-of-spec = tie.close (tie.spec sub-copy slice-aggregate-copy copy-requires returns)

@@ -1,0 +1,4 @@
+pub mod Number
+pub mod Lists
+pub mod Lookup
+pub mod Answers

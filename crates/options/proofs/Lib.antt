@@ -1,0 +1,5 @@
+pub mod TextLaws
+pub mod SignLaws
+pub mod OptionsLaws
+pub mod SettingsLaws
+pub mod Cases

@@ -1,0 +1,11 @@
+pub mod PartLaws
+pub mod UidLaws
+pub mod ScanLaws
+pub mod PieceTurns
+pub mod UidTurns
+pub mod PadLaws
+pub mod ValueLaws
+pub mod NewUidLaws
+pub mod FaultTurns
+pub mod PutLaws
+pub mod Cases

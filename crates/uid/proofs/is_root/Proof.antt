@@ -1,0 +1,16 @@
+-- `is_root` meets its contract: the part that it asks about is the whole. Assumes nothing.
+use mathlib.Core.Path.{ap, _∙_}
+use Rattle.uid.specs.Uid.{isRoot}
+use Rattle.uid.proofs.PartLaws.{part-all}
+use borrow.Author.Needs.{needs}
+use Rattle.uid.proofs.is_root.Statement.{statement}
+use Rattle.uid.proofs.is_root.Tie as tie
+
+is-uid-upto-requires : tie.Need-is-uid-upto-requires
+is-uid-upto-requires c κs = search needs
+
+returns : tie.Need-returns
+returns c = c .is-uid-upto .ensures ∙ ap isRoot (part-all (c .before .before .args .root .now))
+
+pub is-root-spec : {M : Type 1} → statement M
+is-root-spec = tie.close (tie.spec is-uid-upto-requires returns)

@@ -1,0 +1,4 @@
+pub mod Uid
+pub mod Value
+pub mod NewUid
+pub mod Scan
