@@ -8,7 +8,7 @@
 --     elementHead s at end marked low     where an element may stand: in a container that ends at `end`, or, where it is marked, at
 --                                         its end mark before that; tags from `low` on rise
 --     itemHead s at end marked depth      where an item may stand: likewise, with `depth` more items allowed to nest
--- Stricter than PS3.5: UN of undefined length is refused (F18). Laws: `proofs/ReadLaws.antt`. Assumes nothing.
+-- Stricter than PS3.5: UN of undefined length is refused (F18). Laws: `proofs/HeadLaws.antt`, `proofs/LiesLaws.antt`. Assumes nothing.
 use mathlib.Core.Bool.{Bool, true, false, not, _&&_}
 use mathlib.Core.List.{List}
 use Prim.Native.Nat.{ℕ, _+_, _-_, _*_, _%_}

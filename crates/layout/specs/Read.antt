@@ -7,7 +7,7 @@
 --     read depth s      the tree of the data set s, where items may nest `depth` deep
 --     shapeOf r         the code's answer to a result: its fault, or none
 -- The first argument of elementsAt and itemsAt bounds how far the calls go. `read` gives one that is always enough
--- (`read-fault` in `proofs/ReadLaws.antt` shows it). Assumes nothing.
+-- (`read-fault` in `proofs/MadeLaws.antt` shows it). Laws: `proofs/ReadLaws.antt`. Assumes nothing.
 use mathlib.Core.Bool.{Bool, true, false}
 use mathlib.Core.List.{List}
 use Prim.Native.Nat.{ℕ, zero, suc, _+_, _-_}

@@ -5,7 +5,7 @@
 --     opened k, closed k          k with an item's tag, or its end mark, in front
 --     put.. k                     the bytes of the thing, followed by k
 --     bytesOf d                   the bytes of the data set d
--- Headers are made anew from tag, VR and length. Laws: `proofs/WriteLaws.antt`. Assumes nothing.
+-- Headers are made anew from tag, VR and length. Laws: `proofs/MarkLaws.antt`, `proofs/RoundLaws.antt`. Assumes nothing.
 use mathlib.Core.List.{List, [], _∷_, _++_}
 use Prim.Native.Nat.{ℕ, _/_}
 use lib.ListN.{length}

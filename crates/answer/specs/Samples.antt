@@ -1,0 +1,132 @@
+-- The sample exports that document 01 marks with a star: document 01, "Sample exports". `proofs/SampleTable.antt` has the one claim
+-- about all of them. Assumes nothing.
+--     Sample              what a run is handed, what it reports, the bytes that its output begins with, the slots in use afterwards
+--     samples             one line for each sample, in document 01's order
+--     tried c, told c     what the definitions say of a sample, and what the sample says
+use mathlib.Core.List.{List, [], _∷_, _++_, map}
+use Prim.Native.Nat.{ℕ}
+use lib.IntN.{ℤ, pos, negsuc}
+use lib.ListN.{length, take, drop, replicate}
+use Rattle.basis.specs.Text.{ascii, hex}
+use Rattle.vr.specs.Names.{DA, LO, UI}
+use Rattle.layout.specs.Write.{header}
+use Rattle.ledger.specs.Slots.{slotOf, flat}
+use Rattle.kept.specs.Settings.{Settings}
+use Rattle.kept.specs.Counts.{Counts, nothing, counts}
+use Rattle.answer.specs.Input.{Input}
+use Rattle.answer.specs.Answer.{Report, filledUp, reportOf, outputOf, ledgerOf}
+
+pub record Sample : Type 0 where
+  pub input : Input
+  pub report : Report
+  pub begins : List ℕ
+  pub slots : List (List ℕ)
+
+-- ---- how samples are put together
+
+abbrev pub element : ℕ → ℕ → List ℕ → List ℕ
+element tag vr v = header tag vr (length v) ++ v
+
+-- no options, no shift, the root 1.9, empty lists
+abbrev pub plain : Settings
+plain = record { options = 0; shift = pos 0; root = ascii "1.9"; study = []; site = [] }
+
+abbrev pub rooted : List ℕ → Settings
+rooted root = record { options = 0; shift = pos 0; root = root; study = []; site = [] }
+
+-- Modified Dates, by so many days
+abbrev pub moving : ℤ → Settings
+moving days = record { options = 2; shift = days; root = ascii "1.9"; study = []; site = [] }
+
+abbrev pub listed : List ℕ → Settings
+listed study = record { options = 0; shift = pos 0; root = ascii "1.9"; study = study; site = [] }
+
+-- a ledger with two slots and no entries, and room for so many bytes
+abbrev pub run : Settings → ℕ → List ℕ → Input
+run s room lent = record { lent = lent; settings = s; ledger = replicate 128 0; used = 0; room = room }
+
+abbrev pub accepted : ℕ → ℕ → Counts → Report
+accepted n used c = record { refusal = 0; offset = 0; length = n; used = used; counts = c }
+
+abbrev pub no : ℕ → ℕ → Report
+no number offset = record { refusal = number; offset = offset; length = 0; used = 0; counts = nothing }
+
+-- ---- the bytes that document 01 prints
+
+abbrev pub doeJane : List ℕ
+doeJane = hex "10 00 10 00 50 4E 08 00 44 6F 65 5E 4A 61 6E 65"
+
+abbrev pub emptyName : List ℕ
+emptyName = hex "10 00 10 00 50 4E 00 00"
+
+abbrev pub gained : List ℕ
+gained =
+    hex "12 00 62 00 43 53 04 00 59 45 53 20"
+    ++ hex "12 00 64 00 53 51 00 00 FF FF FF FF"
+    ++ hex "FE FF 00 E0 FF FF FF FF"
+    ++ hex "08 00 00 01 53 48 06 00 31 31 33 31 30 30"
+    ++ hex "08 00 02 01 53 48 04 00 44 43 4D 20"
+    ++ hex "08 00 04 01 4C 4F 2A 00" ++ ascii "Basic Application Confidentiality Profile "
+    ++ hex "FE FF 0D E0 00 00 00 00"
+    ++ hex "FE FF DD E0 00 00 00 00"
+    ++ hex "28 00 03 03 43 53 08 00 52 45 4D 4F 56 45 44 20"
+
+abbrev pub subject7 : List ℕ
+subject7 = hex "90 80 40 05 53 55 42 4A 37"
+
+-- ---- Study and Series Instance UID, a study date, a private element, roots
+
+abbrev pub twoUids : List ℕ → List ℕ → List ℕ
+twoUids study series = element 0x0020_000D UI study ++ element 0x0020_000E UI series
+
+-- the new ones stand between the markers
+abbrev pub among : List ℕ → List ℕ → List ℕ
+among study series = take 124 gained ++ twoUids (study ++ 0 ∷ []) (series ++ 0 ∷ []) ++ drop 124 gained
+
+-- a UID of five characters, with its zero byte
+abbrev pub uid : List ℕ → List ℕ
+uid u = u ++ 0 ∷ []
+
+abbrev pub studyDate : List ℕ → List ℕ
+studyDate d = element 0x0008_0020 DA d
+
+-- 1.11 .. 1, of so many characters
+abbrev pub rootOf : ℕ → List ℕ
+rootOf n = ascii "1." ++ replicate n 0x31
+
+abbrev pub sample : Input → Report → List ℕ → List (List ℕ) → Sample
+sample i r b ks = record { input = i; report = r; begins = b; slots = ks }
+
+abbrev pub samples : List Sample
+samples =
+    -- empty input, no options
+    sample (run plain 300 []) (accepted 140 0 nothing) gained []
+    -- Doe^Jane: 148 bytes, replaced 1
+    ∷ sample (run plain 300 doeJane) (accepted 148 0 (counts 0 1 0 0)) (emptyName ++ gained) []
+    -- the same with room 148, and with room 147: refusal 14, and all zeros
+    ∷ sample (run plain 148 doeJane) (accepted 148 0 (counts 0 1 0 0)) (emptyName ++ gained) []
+    ∷ sample (run plain 147 doeJane) (no 14 0) (replicate 147 0) []
+    -- with the list above: 154 bytes
+    ∷ sample (run (listed subject7) 300 doeJane) (accepted 154 0 (counts 0 1 0 0)) (hex "10 00 10 00 50 4E 06 00 53 55 42 4A 37 20" ++ gained) []
+    -- both UIDs 1.2.3: both 1.9.1, one slot; different ones: 1.9.1 and 1.9.2
+    ∷ sample (run plain 300 (twoUids (uid (ascii "1.2.3")) (uid (ascii "1.2.3")))) (accepted 168 1 (counts 0 0 2 0))
+      (among (ascii "1.9.1") (ascii "1.9.1")) (slotOf (ascii "1.2.3") ∷ [])
+    ∷ sample (run plain 300 (twoUids (uid (ascii "1.2.3")) (uid (ascii "1.2.4")))) (accepted 168 2 (counts 0 0 2 0))
+      (among (ascii "1.9.1") (ascii "1.9.2")) (slotOf (ascii "1.2.3") ∷ slotOf (ascii "1.2.4") ∷ [])
+    -- dates: by -1 day twice, by 30, and out of the years
+    ∷ sample (run (moving (negsuc 0)) 300 (studyDate (ascii "20200301"))) (accepted 268 0 (counts 0 1 0 0)) (studyDate (ascii "20200229")) []
+    ∷ sample (run (moving (negsuc 0)) 300 (studyDate (ascii "20190301"))) (accepted 268 0 (counts 0 1 0 0)) (studyDate (ascii "20190228")) []
+    ∷ sample (run (moving (pos 30)) 300 (studyDate (ascii "20240131"))) (accepted 268 0 (counts 0 1 0 0)) (studyDate (ascii "20240301")) []
+    ∷ sample (run (moving (negsuc 0)) 300 (studyDate (ascii "00010101"))) (no 12 0) (replicate 300 0) []
+    -- a root of 59 characters, and of 60
+    ∷ sample (run (rooted (rootOf 57)) 300 []) (accepted 140 0 nothing) gained []
+    ∷ sample (run (rooted (rootOf 58)) 300 []) (no 2 0) (replicate 300 0) []
+    -- (0009,0010) is removed
+    ∷ sample (run plain 300 (element 0x0009_0010 LO (ascii "ACME"))) (accepted 140 0 (counts 0 0 0 1)) gained []
+    ∷ []
+
+abbrev pub tried : Sample → Report × List ℕ × List ℕ
+tried c = (reportOf (c .input), take (length (c .begins)) (outputOf (c .input)), ledgerOf (c .input))
+
+abbrev pub told : Sample → Report × List ℕ × List ℕ
+told c = (c .report, c .begins, filledUp (length (c .input .ledger)) (flat (c .slots)))
