@@ -4,7 +4,8 @@ use std::env;
 use std::path::PathBuf;
 
 fn main() {
-    let crate_folder = PathBuf::from(env::var_os("CARGO_MANIFEST_DIR").expect("cargo names the crate's folder"));
+    let crate_folder =
+        PathBuf::from(env::var_os("CARGO_MANIFEST_DIR").expect("cargo names the crate's folder"));
     let folder = crate_folder.with_file_name("target").join("library");
     let archive = folder.join("libcorravisk.a");
     println!("cargo::rerun-if-changed={}", archive.display());

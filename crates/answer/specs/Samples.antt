@@ -110,9 +110,9 @@ samples =
     ∷ sample (run (listed subject7) 300 doeJane) (accepted 154 0 (counts 0 1 0 0)) (hex "10 00 10 00 50 4E 06 00 53 55 42 4A 37 20" ++ gained) []
     -- both UIDs 1.2.3: both 1.9.1, one slot; different ones: 1.9.1 and 1.9.2
     ∷ sample (run plain 300 (twoUids (uid (ascii "1.2.3")) (uid (ascii "1.2.3")))) (accepted 168 1 (counts 0 0 2 0))
-      (among (ascii "1.9.1") (ascii "1.9.1")) (slotOf (ascii "1.2.3") ∷ [])
+    (among (ascii "1.9.1") (ascii "1.9.1")) (slotOf (ascii "1.2.3") ∷ [])
     ∷ sample (run plain 300 (twoUids (uid (ascii "1.2.3")) (uid (ascii "1.2.4")))) (accepted 168 2 (counts 0 0 2 0))
-      (among (ascii "1.9.1") (ascii "1.9.2")) (slotOf (ascii "1.2.3") ∷ slotOf (ascii "1.2.4") ∷ [])
+    (among (ascii "1.9.1") (ascii "1.9.2")) (slotOf (ascii "1.2.3") ∷ slotOf (ascii "1.2.4") ∷ [])
     -- dates: by -1 day twice, by 30, and out of the years
     ∷ sample (run (moving (negsuc 0)) 300 (studyDate (ascii "20200301"))) (accepted 268 0 (counts 0 1 0 0)) (studyDate (ascii "20200229")) []
     ∷ sample (run (moving (negsuc 0)) 300 (studyDate (ascii "20190301"))) (accepted 268 0 (counts 0 1 0 0)) (studyDate (ascii "20190228")) []

@@ -7,7 +7,7 @@ use native.Mathlib.Omega.{arith}
 use lib.ListN.{length, take, drop, getD, set, replicate}
 use lib.Seq.{take-suc, getD-drop, length-take-le, take-all, take-take}
 use lib.ListN.{length-drop}
-use Rattle.basis.specs.Bytes.{part, low2, low4}
+use Rattle.basis.specs.Bytes.{part}
 use Rattle.buffer.specs.Buffer.{laid, cleared}
 
 pub length-laid : (o : List ℕ) (p : ℕ) (xs : List ℕ) → length (laid o p xs) ≡ length o
@@ -172,12 +172,6 @@ block-more o s p from i h k =
     ∙ ap (λ n. laid (laid o p (take i (drop from s))) (p + n) (getD s (from + i) 0 ∷ [])) (sym m)
     ∙ laid-laid o p (take i (drop from s)) (getD s (from + i) 0 ∷ [])
     ∙ ap (laid o p) (ap (λ x. take i (drop from s) ++ x ∷ []) (sym (getD-drop from s i 0)) ∙ sym (take-suc (drop from s) i 0 l) ∙ ap (λ n. take n (drop from s)) n)
-
--- four bytes are two and two
-pub low4-two : (o : List ℕ) (p n : ℕ) {o₁ o₂ : List ℕ} → o₁ ≡ laid o p (low2 n) → o₂ ≡ laid o₁ (p + 2) (low2 (n / 65536)) → o₂ ≡ laid o p (low4 n)
-low4-two o p n {o₁} {o₂} e f =
-    let g : n / 65536 / 256 ≡ n / 16777216 = omega arith in
-    rw (← g) (laid-more o p (low2 n) (low2 (n / 65536)) e refl f)
 
 -- a block that is cut where the buffer ends
 pub laid-cut : (o s : List ℕ) (p a e : ℕ) → p < length o → length o - p < e - a → laid o p (take (length o - p) (drop a s)) ≡ laid o p (part s a e)

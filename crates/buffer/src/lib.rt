@@ -2,7 +2,7 @@ ghost use mathlib.Core.Path.{_≡_};
 ghost use Prim.Native.Nat.{ℕ, _+_, _-_, _*_, _≤_, _<_, _^_};
 ghost use mathlib.Core.List.{List, [], _∷_};
 ghost use lib.ListN.{length, take, drop};
-ghost use Rattle.basis.specs.Bytes.{part, low2, low4};
+ghost use Rattle.basis.specs.Bytes.{part};
 ghost use Rattle.buffer.specs.Buffer.{laid, cleared};
 
 // One byte at `pos`, where there is room for it.
@@ -42,24 +42,6 @@ pub fn copy_block(s: &[u8], from: usize, to: usize, out: &mut [u8], pos: usize) 
     }
     copy(s, from, len, out, pos);
     pos + len
-}
-
-// Two bytes, the lowest first.
-pub fn put2(out: &mut [u8], pos: usize, n: u64)
-    requires { ⌜ pos + 2 < 2 ^ 64 ⌝ }
-    ensures { λ _. ⌜ now (out .exit) ≡ laid (now (out .entry)) pos (low2 n) ⌝ }
-{
-    put(out, pos, (n % 256) as u8);
-    put(out, pos + 1, (n / 256 % 256) as u8);
-}
-
-// Four bytes, the lowest first.
-pub fn put4(out: &mut [u8], pos: usize, n: u64)
-    requires { ⌜ pos + 4 < 2 ^ 64 ⌝ }
-    ensures { λ _. ⌜ now (out .exit) ≡ laid (now (out .entry)) pos (low4 n) ⌝ }
-{
-    put2(out, pos, n);
-    put2(out, pos + 2, n / 65536);
 }
 
 // Zeros from `pos` to the end.

@@ -173,7 +173,7 @@ module _ (days : ℤ) (v : List ℕ) (h : allMove true days (datePieces true v) 
       = ap (λ w. shifted true days v ++ w) (ap (λ k. drop k v) d ∙ drop-length v) ∙ append-nil (shifted true days v) in
       let l : getD (shiftedText true days v) (length (shiftedText true days v) - 1) 0 ≡ space → ⊥
       = free-getD space 0 (shiftedText true days v) (length (shiftedText true days v) - 1) (λ z. omega arith)
-        (subst (Free space) (sym t) (joined-free days (datePieces true v) h)) in
+      (subst (Free space) (sym t) (joined-free days (datePieces true v) h)) in
       ap (λ b. eqb (length (shiftedText true days v) % 2) 0 && b) (ne-eqb _ space l) ∙ none (eqb (length (shiftedText true days v) % 2) 0)
     where
       none : (b : Bool) → b && false ≡ false

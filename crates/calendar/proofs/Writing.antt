@@ -47,7 +47,7 @@ module _ (da : Bool) (s : List ℕ) (a b : ℕ) (in-s : b ≤ length s) (days : 
     rest =
         ap (drop dateLength) (part-part s a (a + dateLength) b (omega arith) put-long)
         ∙ drop-at (part s a (a + dateLength)) (part s (a + dateLength) b) dateLength
-          (omega (arith, length-part s a (a + dateLength) (omega (arith, put-long))))
+        (omega (arith, length-part s a (a + dateLength) (omega (arith, put-long))))
 
     pub put-moved : (o : List ℕ) (pos : ℕ) {o₁ o₂ : List ℕ} → o₁ ≡ laid o pos (dateText d)
         → o₂ ≡ laid o₁ (pos + dateLength) (part s (a + dateLength) b) → o₂ ≡ laid o pos (shiftedPiece da days (part s a b))
@@ -110,8 +110,15 @@ module _ {da : Bool} {s : List ℕ} {from to : ℕ} {days : ℤ} {stop : ℕ} {o
 
     size-more : length (g .text ++ piece) ≡ b - from
     size-more =
-        omega (arith, g .size, g .lo, write-cut .from, length-append (g .text) piece, length-shiftedPiece da days (part s a b),
-          length-part s a b (omega (arith, write-cut .upto, g .upto, g .in-s)))
+        omega (
+          arith,
+          g .size,
+          g .lo,
+          write-cut .from,
+          length-append (g .text) piece,
+          length-shiftedPiece da days (part s a b),
+          length-part s a b (omega (arith, write-cut .upto, g .upto, g .in-s)),
+        )
 
     written-more : o₁ ≡ laid o₀ pos (g .text ++ piece)
     written-more = laid-more o₀ pos (g .text) piece (g .written) (omega (arith, g .place, g .size)) (w .1)
@@ -128,9 +135,9 @@ module _ {da : Bool} {s : List ℕ} {from to : ℕ} {days : ℤ} {stop : ℕ} {o
         let le : from ≤ to = omega (arith, g .lo, g .hi, g .upto) in
         laid-more o₀ pos (g .text ++ piece) (part s stop to) written-more (omega (arith, size-more, write-end)) v
         ∙ ap (laid o₀ pos)
-          (ap₂ _++_ (ap (λ z. g .text ++ z) (sym (joined-one piece)) ∙ whole-is [] (write-cut .last at)
-          ∙ ap (λ v. joined (map (shiftedPiece da days) (pieces v))) (sym (dates-take da s from to stop (g .in-s) le (g .ends))))
-          (sym (dates-drop da s from to stop (g .in-s) le (g .ends))))
+        (ap₂ _++_ (ap (λ z. g .text ++ z) (sym (joined-one piece)) ∙ whole-is [] (write-cut .last at)
+        ∙ ap (λ v. joined (map (shiftedPiece da days) (pieces v))) (sym (dates-take da s from to stop (g .in-s) le (g .ends))))
+        (sym (dates-drop da s from to stop (g .in-s) le (g .ends))))
         ∙ ap (λ z. laid o₀ pos (shiftedText da z (part s from to))) same
 
     pub write-on : {o₂ : List ℕ} → b < stop → o₂ ≡ laid o₁ q (backslash ∷ []) → Writing da s from to days stop o₀ pos o₂ (b + 1) (q + 1)

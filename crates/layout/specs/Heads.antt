@@ -1,14 +1,15 @@
 -- What stands at a place of a data set, or the fault there: document 01, "Layout of a data set", refusals 6 to 10 and their order.
--- Each head is one test a line, in that order. A head is the code's own enum; a fault is its refusal's number.
+-- Each head makes its tests in that order. The answers are the code's own enums, `Head` and `Spot` of `src/lib.rt`, which says what each
+-- case holds; `Bad n` and `Wrong n` are a fault with its refusal's number.
 --     tagAt s at                          the tag of four bytes: group × 65,536 + element
 --     itemTag, itemEnd, sequenceEnd       (FFFE,E000), (FFFE,E00D), (FFFE,E0DD)
 --     undefined                           the length FFFFFFFF
 --     allowed tag                         an element may have this tag
 --     lengthFault n left                  the fault of a stated length n with left bytes to the container's end; 0 where there is none
 --     elementHead s at end marked low     where an element may stand: in a container that ends at `end`, or, where it is marked, at
---                                         its end mark before that; tags from `low` on rise
+--                                         its end mark before that; `low` is the least tag that may stand here
 --     itemHead s at end marked depth      where an item may stand: likewise, with `depth` more items allowed to nest
--- Stricter than PS3.5: UN of undefined length is refused (F18). Laws: `proofs/HeadLaws.antt`, `proofs/LiesLaws.antt`. Assumes nothing.
+-- Stricter than PS3.5: UN and OB of undefined length are refused (F18). Laws: `proofs/HeadLaws.antt`, `proofs/LiesLaws.antt`. Assumes nothing.
 use mathlib.Core.Bool.{Bool, true, false, not, _&&_}
 use mathlib.Core.List.{List}
 use Prim.Native.Nat.{ℕ, _+_, _-_, _*_, _%_}
@@ -26,7 +27,7 @@ use Rattle.layout.specs.declared.Spot.the-variants.{Wrong, Over, Item}
 abbrev pub tagAt : List ℕ → ℕ → ℕ
 tagAt s at = le2 s at * 65536 + le2 s (at + 2)
 
--- Document 01, Layout, 2nd point: the marks and the length of what is closed by one
+-- Document 01, Layout, 2nd point: the end marks, and the length of what one closes; the tag of an item is PS3.5's
 abbrev pub itemTag : ℕ
 itemTag = 0xFFFEE000
 
@@ -39,7 +40,7 @@ sequenceEnd = 0xFFFEE0DD
 abbrev pub undefined : ℕ
 undefined = 0xFFFFFFFF
 
--- Document 01, Layout, 3rd point: no element's group is below 0008, FFFE or FFFF
+-- Document 01, Layout, 3rd point: an element's group is one of 0008 to FFFD
 unfoldable pub allowed : ℕ → Bool
 allowed tag = leb 0x00080000 tag && ltb tag 0xFFFE0000
 
@@ -47,12 +48,12 @@ allowed tag = leb 0x00080000 tag && ltb tag 0xFFFE0000
 unfoldable pub lengthFault : ℕ → ℕ → ℕ
 lengthFault n left = pick (eqb (n % 2) 0) (pick (ltb left n) 6 0) 9
 
--- an element with a value of n bytes; undefined length is an odd number, so 9
+-- Document 01, the shape order at an element, the last two tests, of a value of n bytes; FFFFFFFF is odd, so 9 (F18)
 unfoldable pub valueHead : ℕ → ℕ → ℕ → ℕ → ℕ → Head
 valueHead tag vr body end n =
     pick (eqb (lengthFault n (end - body)) 0) (Plain tag vr body (body + n)) (Bad (lengthFault n (end - body)))
 
--- a sequence whose items begin at body: up to its end mark, or as far as its length says
+-- the same of a sequence whose items begin at body: up to its end mark, or as far as its length says
 unfoldable pub sequenceHead : ℕ → ℕ → ℕ → ℕ → Head
 sequenceHead tag body end n =
     pick (eqb n undefined) (Seq tag body end true)
@@ -66,7 +67,7 @@ longHead s at end tag vr holdsItems =
     (pick holdsItems (sequenceHead tag (at + 12) end (le4 s (at + 8)))
     (valueHead tag vr (at + 12) end (le4 s (at + 8)))))
 
--- the rest of an element's head, by its VR
+-- Document 01, the shape order at an element, the test of the VR: what follows by its kind
 unfoldable pub vrHead : List ℕ → ℕ → ℕ → ℕ → ℕ → Head
 vrHead s at end tag vr =
     elim (kindOf vr) [
@@ -76,11 +77,12 @@ vrHead s at end tag vr =
       | Sequence ↦ longHead s at end tag vr true
     ]
 
--- from the tag on
+-- Document 01, the shape order at an element, the test of the tag, and what follows
 unfoldable pub tagHead : List ℕ → ℕ → ℕ → ℕ → ℕ → Head
 tagHead s at end tag low = pick (leb low tag && allowed tag) (vrHead s at end tag (le2 s (at + 4))) (Bad 7)
 
--- Document 01, the shape order at an element. Where an end mark closes the container, it stands in an element's place (F7).
+-- Document 01, the shape order at an element. A container of stated length ends where it is full; where an end mark closes it, that
+-- stands in an element's place (F7).
 unfoldable pub elementHead : List ℕ → ℕ → ℕ → Bool → ℕ → Head
 elementHead s at end marked low =
     pick (eqb at end && not marked) (End at)
@@ -88,18 +90,18 @@ elementHead s at end marked low =
     (pick (marked && eqb (tagAt s at) itemEnd) (pick (eqb (le4 s (at + 4)) 0) (End (at + 8)) (Bad 9))
     (tagHead s at end (tagAt s at) low)))
 
--- an item whose elements begin at body
+-- Document 01, the shape order at an item, the last two tests; its elements begin at body
 unfoldable pub itemBody : ℕ → ℕ → ℕ → Spot
 itemBody body end n =
     pick (eqb n undefined) (Item body end true)
     (pick (eqb (lengthFault n (end - body)) 0) (Item body (body + n) false) (Wrong (lengthFault n (end - body))))
 
--- from the tag on
+-- Document 01, the shape order at an item, the tests of tag and depth, and what follows
 unfoldable pub itemAt : List ℕ → ℕ → ℕ → ℕ → ℕ → Spot
 itemAt s at end tag depth =
     pick (eqb tag itemTag) (pick (eqb depth 0) (Wrong 10) (itemBody (at + 8) end (le4 s (at + 4)))) (Wrong 7)
 
--- Document 01, the shape order at an item or mark
+-- Document 01, the shape order at an item or mark; a sequence of stated length ends where it is full
 unfoldable pub itemHead : List ℕ → ℕ → ℕ → Bool → ℕ → Spot
 itemHead s at end marked depth =
     pick (eqb at end && not marked) (Over at)

@@ -3,6 +3,7 @@
 --     Result A          what was read and the place past it, or a fault: its number and its offset
 --     with f r          r, with f of what was read
 --     after r f         f of what was read and the place past it, or r's fault
+--     placed at body past    a label
 --     elementsAt, itemsAt    the elements of a container, the items of a sequence, from a place on
 --     read depth s      the tree of the data set s, where items may nest `depth` deep
 --     shapeOf r         the code's answer to a result: its fault, or none

@@ -1,5 +1,5 @@
 -- What the walks of `src/` promise, each by a definition of `Read` or `Heads`. Assumes nothing.
---     Inside at end h         the places of an element's head rise and stay within the container
+--     Inside at end h         the places of an element's head rise and stay within the container, and its tag has four bytes
 --     Within at end depth h   likewise of an item's
 --     Stays at end r          a walk from `at` goes on to a place within the container
 --     Walked, WalkedItems     a walk of a container of elements, of a sequence's items: its answer is the definition's

@@ -5,7 +5,8 @@
 --     tagOf row              the row's tag: group × 65,536 + element
 --     basicOf row            the letter of its basic action
 --     letterOf row bit       the letter in the column of the option of that bit
---     columns                the bits that have a column: the six options, and at 6 Clean Descriptors, which is not offered yet (A18)
+--     columns                the bits that have a column: 0 Full Dates, 1 Modified Dates, 2 Patient Characteristics, 3 Device Identity,
+--                            4 Retain UIDs, 5 Institution Identity, and 6 Clean Descriptors, which is not offered yet (A18)
 --     rowIn tag rows         the first of the rows with that tag, or noRow
 --     rowOf tag              the table's row of that tag, or noRow where the table has none
 --     rising last rows       a test: the tags of the rows rise strictly, and the first is above last

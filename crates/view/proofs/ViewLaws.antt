@@ -1,4 +1,6 @@
--- What the view's loop keeps, and how a turn of it goes. No contract cites this file. Assumes nothing.
+-- What the view's answers are, what its loop keeps, and how a turn of it goes. No contract cites this file. Assumes nothing.
+--     viewOf-refused    a refusal of the view is one of 5 to 10, with an offset within the data set
+--     shows-numbers     the part that is shown is the one that the numbers of the C interface tell
 --     ahead got w r     the answer where `got` is known so far and r is what the rest of the level is
 --     Seeking           the loop's invariant: the answer at the start is the answer from here, and what is known lies within the data set
 use mathlib.Core.Path.{_≡_, refl, sym, ap, _∙_}
@@ -7,12 +9,13 @@ use mathlib.Core.List.{List}
 use mathlib.Core.Option.{Option, none, some}
 use Prim.Native.Nat.{ℕ, zero, suc, _+_, _-_, _≤_, _<_}
 use native.Mathlib.Omega.{arith}
-use lib.Dec.{eqb}
+use lib.Dec.{eqb, ltb}
+use denote.Ref.{RefT}
 use lib.ListN.{length}
 use Rattle.basis.specs.Choice.{pick, fork}
 use Rattle.basis.specs.Bytes.{part}
 use Rattle.vr.specs.Names.{SQ}
-use Rattle.layout.specs.Limits.{deepest}
+use Rattle.layout.specs.Limits.{deepest, longest}
 use Rattle.layout.specs.Tree.{Field, value, items, Elements, nil, elem, Items, Place}
 use Rattle.layout.specs.Heads.{elementHead}
 use Rattle.layout.specs.Read.{Result, good, fault, with, after, placed, elementsAt, itemsAt, read, shapeOf}
@@ -23,10 +26,44 @@ use Rattle.layout.specs.declared.Shape.{Shape}
 use Rattle.layout.specs.declared.Shape.the-variants.{Fine, Fault}
 use Rattle.layout.proofs.Fuel.{Run, run-start, run-turn, run-stop}
 use Rattle.layout.proofs.ReadLaws.{at-bad, at-end, at-plain, at-seq}
-use Rattle.view.specs.View.{find, sought, judged, Fits}
+use Rattle.layout.proofs.MadeLaws.{read-fault}
+use Rattle.basis.specs.Parts.{IsPart}
+use Rattle.basis.proofs.ChoiceLaws.{pick-case}
+use Rattle.view.specs.View.{find, sought, judged, viewOf, startOf, lengthOf, Shows, Fits}
 use Rattle.view.specs.Met.{metOf}
 use Rattle.view.specs.declared.Answer.{Answer}
 use Rattle.view.specs.declared.Answer.the-variants.{Found, Absent, Refused}
+
+-- ---- viewOf
+
+abbrev Told : ℕ → Answer → Type 0
+Told n (Found body past) = Unit {0}
+Told n Absent = Unit {0}
+Told n (Refused k o) = (5 ≤ k) × (k ≤ 10) × (o ≤ n)
+
+told-sought : (n : ℕ) (p : Option Place) → Told n (sought p)
+told-sought n none = tt
+told-sought n (some p) = tt
+
+told-judged : (s : List ℕ) (tag : ℕ) (r : Result (Elements Place)) → read deepest s ≡ r → Told (length s) (judged r tag)
+told-judged s tag (good es past) e = told-sought (length s) (find tag es)
+told-judged s tag (fault n o) e = let f = read-fault deepest s n o e in (omega (arith, f .0), f .1, f .2)
+
+told-view : (s : List ℕ) (tag : ℕ) → Told (length s) (viewOf s tag)
+unfolding viewOf
+told-view s tag =
+    pick-case (Told (length s)) (ltb longest (length s)) _ _
+    (λ _. (omega arith, omega arith, omega arith)) (λ _. told-judged s tag (read deepest s) refl)
+
+pub viewOf-refused : (s : List ℕ) (tag n o : ℕ) → viewOf s tag ≡ Refused n o → (5 ≤ n) × (n ≤ 10) × (o ≤ length s)
+viewOf-refused s tag n o e = rw e at (told-view s tag)
+
+-- ---- Shows
+
+pub shows-numbers : (n : ℕ) (a : Answer) (r lent : RefT (List ℕ)) → Fits n a → Shows a r lent → IsPart r lent (startOf a) (startOf a + lengthOf a)
+shows-numbers n (Found body past) r lent f h = let e : body + (past - body) ≡ past = omega arith in rw e h
+shows-numbers n Absent r lent f h = h
+shows-numbers n (Refused k o) r lent f h = h
 
 -- ---- the answer from a place on
 

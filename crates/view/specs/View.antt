@@ -1,8 +1,10 @@
 -- The second entry, which shows one attribute: document 01, the last paragraph of "When the station says no"; readings V1 to V5.
 --     find tag es                 where the element with this tag stands on the level es
+--     sought p                    found at the place p, or absent
 --     judged r tag                the answer to what was read: a fault anywhere, or found, or absent
 --     viewOf s tag                the answer for the data set s
---     refusalOf, offsetOf, foundOf, startOf, lengthOf    document 01's numbers for each case of the answer
+--     refusalOf, offsetOf, foundOf, startOf, lengthOf    the numbers that are handed back for each case of the answer
+--                                 (a refusal's number and offset are document 01's; 0 where there is none, and the rest, are ours: R9)
 --     Shows a r lent              the slice r is the very part of `lent` that the answer a speaks of, else an empty part of it
 --     Fits n a                    the part that the answer speaks of lies within n bytes
 -- Laws: `proofs/ViewLaws.antt`. Assumes nothing.

@@ -1,5 +1,6 @@
 -- Laws of `specs/Vr.antt`. What holds of the VRs is proved once over the VR, by one computed test over the 34.
 -- No contract cites this file. Assumes nothing.
+--     known-spelt       each name is the number that its own letters spell
 --     known-each        what f is at each of the 34, it is at every known VR
 --     kindOf-unknown    what is not among the 34 is Unknown
 --     kindOf-known      what is not Unknown is among them
@@ -15,6 +16,8 @@ use lib.Dec.{T, eqb, ltb, leb, ltb→lt, leb→le}
 use lib.ListN.{length, replicate}
 use borrow.Author.Tests.{eqb-true}
 use Rattle.basis.specs.Choice.{pick, among}
+use Rattle.basis.specs.Bytes.{le2}
+use Rattle.basis.specs.Text.{ascii}
 use Rattle.basis.proofs.ChoiceLaws.{among-each, among-less, eqb-less}
 use Rattle.vr.specs.Names.{SQ}
 use Rattle.vr.specs.Vr.{known, long, kindOf, dummyOf}
@@ -22,6 +25,9 @@ use Rattle.vr.specs.declared.Kind.{Kind}
 use Rattle.vr.specs.declared.Kind.the-variants.{Unknown, Short, Long, Sequence}
 
 -- ---- known
+
+pub known-spelt : known ≡ map (λ t. le2 (ascii t) 0) ("AE" ∷ "AS" ∷ "AT" ∷ "CS" ∷ "DA" ∷ "DS" ∷ "DT" ∷ "FD" ∷ "FL" ∷ "IS" ∷ "LO" ∷ "LT" ∷ "OB" ∷ "OD" ∷ "OF" ∷ "OL" ∷ "OV" ∷ "OW" ∷ "PN" ∷ "SH" ∷ "SL" ∷ "SQ" ∷ "SS" ∷ "ST" ∷ "SV" ∷ "TM" ∷ "UC" ∷ "UI" ∷ "UL" ∷ "UN" ∷ "UR" ∷ "US" ∷ "UT" ∷ "UV" ∷ [])
+known-spelt = refl
 
 pub known-each : {A : Type 0} (f : ℕ → A) (c : A) → map f known ≡ replicate 34 c → (vr : ℕ) → among vr known ≡ true → f vr ≡ c
 known-each f c h vr is = among-each f c vr known h is

@@ -1,8 +1,9 @@
 -- What document 01 says of a VR, as four questions about its two letters.
 --     known             the 34 VRs
+--     long, served      those with a length of four bytes; those that list values serve
 --     kindOf vr         how an element's header goes on after the VR: Unknown, Short, Long or Sequence
 --     servedByLists vr  a replacement list may give a value for it
---     dummyOf vr        what D writes where no list has a value, before padding; nothing for UI and SQ, which D treats otherwise
+--     dummyOf vr        what D writes where no list has a value, before padding; nothing for UI and SQ, which D treats otherwise, and for no VR
 --     inRoom xs         xs and then zeros, 14 bytes in all: how the code hands a dummy over
 -- Laws: `proofs/VrLaws.antt`. Assumes nothing.
 use mathlib.Core.Bool.{Bool}

@@ -1,7 +1,7 @@
 // What document 01 says of each of the 34 VRs. A VR is the number that its two letters spell, lowest byte first.
 ghost use mathlib.Core.Path.{_≡_};
 ghost use lib.ListN.{length};
-ghost use Rattle.vr.specs.Vr.{kindOf, servedByLists, dummyOf, inRoom};
+ghost use Rattle.vr.specs.Vr.{known, kindOf, servedByLists, dummyOf, inRoom};
 
 pub const AE: u64 = 0x4541;
 
@@ -84,6 +84,48 @@ pub enum Kind {
     Long,
     // as Long, and the value is items
     Sequence,
+}
+
+// All of them, in document 01's order.
+pub fn vrs() -> [u64; 34]
+    ensures { λ r. ⌜ r ≡ known ⌝ }
+{
+    [
+        AE,
+        AS,
+        AT,
+        CS,
+        DA,
+        DS,
+        DT,
+        FD,
+        FL,
+        IS,
+        LO,
+        LT,
+        OB,
+        OD,
+        OF,
+        OL,
+        OV,
+        OW,
+        PN,
+        SH,
+        SL,
+        SQ,
+        SS,
+        ST,
+        SV,
+        TM,
+        UC,
+        UI,
+        UL,
+        UN,
+        UR,
+        US,
+        UT,
+        UV,
+    ]
 }
 
 pub fn kind_of(vr: u64) -> Kind

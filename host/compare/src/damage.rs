@@ -1,7 +1,8 @@
 //! Damage to a data set, at every kind of place where document 01 has a rule for its shape.
 //!
-//! Some damage leaves the lengths around it stale, as a broken file would; some keeps the stated lengths of all containers
-//! around it true, so that the fault lies where it was put and not in the first length on the way there (F2, F3, F5).
+//! Some damage leaves the lengths around it stale, as a broken file would; some keeps the stated lengths of
+//! all containers around it true, so that the fault lies where it was put and not in the first length on the
+//! way there (F2, F3, F5).
 
 use std::ops::Range;
 
@@ -77,8 +78,9 @@ pub fn any(set: &mut DataSet, random: &mut Random) -> Option<Damage> {
 }
 
 impl Damage {
-    /// Damages the data set; none if it has no place for this. The places behind stay right, but where the damage has
-    /// changed what they are: whoever strikes again strikes by the old plan, and never past the end.
+    /// Damages the data set; none if it has no place for this. The places behind stay right, but where the
+    /// damage has changed what they are: whoever strikes again strikes by the old plan, and never past the
+    /// end.
     pub fn strike(self, set: &mut DataSet, random: &mut Random) -> Option<()> {
         match self {
             Damage::Cut => {
@@ -122,7 +124,8 @@ impl Damage {
             }
             Damage::ItemTag => {
                 let place = any_place(set, random, |place| place.kind == Kind::Item)?;
-                let others = [ITEM_END, SEQUENCE_END, ITEM + 1, 0xFFFE_0000, 0xFFFF_E000, allowed_tag(random)];
+                let others =
+                    [ITEM_END, SEQUENCE_END, ITEM + 1, 0xFFFE_0000, 0xFFFF_E000, allowed_tag(random)];
                 write(set, place.at, &tag_bytes(random.pick(&others)));
             }
             Damage::Vr => {
@@ -176,7 +179,8 @@ impl Damage {
             }
             Damage::Exchanged => {
                 let first = any_place(set, random, Place::is_element)?;
-                let second = sibling(set, |place| place.at == first.end && place.container == first.container)?;
+                let second =
+                    sibling(set, |place| place.at == first.end && place.container == first.container)?;
                 set.bytes.get_mut(first.at..second.end)?.rotate_left(first.end - first.at);
             }
         }
@@ -300,7 +304,8 @@ fn odd_length(set: &DataSet, place: &Place, random: &mut Random) -> u32 {
     ])
 }
 
-/// A tag for an element that has one: equal to its neighbour's, falling, never allowed, or at the edge of that.
+/// A tag for an element that has one: equal to its neighbour's, falling, never allowed, or at the edge of
+/// that.
 fn odd_tag(set: &DataSet, place: &Place, random: &mut Random) -> u32 {
     let own = tag_at(&set.bytes, place.at).unwrap_or(0);
     let before = sibling(set, |other| other.end == place.at && other.container == place.container);
@@ -308,6 +313,7 @@ fn odd_tag(set: &DataSet, place: &Place, random: &mut Random) -> u32 {
     let tag_of = |place: Option<Place>| place.and_then(|place| tag_at(&set.bytes, place.at)).unwrap_or(own);
     let (before, after) = (tag_of(before), tag_of(after));
     let element = own & 0xFFFF;
+    let other = allowed_tag(random);
     random.pick(&[
         before,
         before,
@@ -331,12 +337,13 @@ fn odd_tag(set: &DataSet, place: &Place, random: &mut Random) -> u32 {
         0xFFFF_0000 | element,
         u32::MAX,
         own.rotate_left(16),
-        allowed_tag(random),
+        other,
     ])
 }
 
 fn odd_vr(old: [u8; 2], random: &mut Random) -> [u8; 2] {
     let [first, second] = old;
+    let noise = [random.byte(), random.byte()];
     let letters = [b'A' + random.below(26) as u8, b'A' + random.below(26) as u8];
     let known = random.pick(&["SQ", "SQ", "UN", "OB", "UT", "CS", "US", "UI"]).as_bytes();
     random.pick(&[
@@ -346,7 +353,7 @@ fn odd_vr(old: [u8; 2], random: &mut Random) -> [u8; 2] {
         [first, first],
         [first, 0],
         [0, 0],
-        [random.byte(), random.byte()],
+        noise,
         letters,
         *b"OX",
         [known[0], known[1]],

@@ -1,7 +1,7 @@
 //! Data sets from seeds: well-formed by document 01, "Layout of a data set", or too deep and nothing else.
 //!
-//! What is made is known place by place (headers, items, marks and what contains them), so that `damage` can strike where it
-//! means something and `cases` knows which tags stand at the top level and which in items.
+//! What is made is known place by place (headers, items, marks and what contains them), so that `damage` can
+//! strike where it means something and `cases` knows which tags stand at the top level and which in items.
 
 use std::collections::BTreeSet;
 use std::sync::OnceLock;
@@ -105,7 +105,8 @@ fn single_tag(text: &str) -> Option<u32> {
 
 /// Any tag that an element may have, of every kind that document 01 speaks of.
 pub fn allowed_tag(random: &mut Random) -> u32 {
-    let element = random.pick(&[0, 1, 0x10, 0x1010, 0x3000, 0x4000, 0xFFFF, random.below(0x1_0000) as u32]);
+    let any = random.below(0x1_0000) as u32;
+    let element = random.pick(&[0, 1, 0x10, 0x1010, 0x3000, 0x4000, 0xFFFF, any]);
     let tag = match random.below(12) {
         0..=4 => random.pick(table_tags()),
         // private

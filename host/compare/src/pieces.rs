@@ -1,5 +1,5 @@
-//! Named pieces that data sets are put together from (document 01, "Layout of a data set"). Nothing here is shared with the
-//! second program or with the proved one.
+//! Named pieces that data sets are put together from (document 01, "Layout of a data set"). Nothing here is
+//! shared with the second program or with the proved one.
 
 pub type Bytes = Vec<u8>;
 
@@ -16,8 +16,8 @@ pub const LAST_TAG: u32 = 0xFFFD_FFFF;
 
 /// The VRs with a two-byte length.
 pub const SHORT_VRS: [&str; 21] = [
-    "AE", "AS", "AT", "CS", "DA", "DS", "DT", "FD", "FL", "IS", "LO", "LT", "PN", "SH", "SL", "SS", "ST", "TM",
-    "UI", "UL", "US",
+    "AE", "AS", "AT", "CS", "DA", "DS", "DT", "FD", "FL", "IS", "LO", "LT", "PN", "SH", "SL", "SS", "ST",
+    "TM", "UI", "UL", "US",
 ];
 /// The VRs with two zero bytes and a four-byte length, but for SQ.
 pub const LONG_VRS: [&str; 12] = ["OB", "OD", "OF", "OL", "OV", "OW", "SV", "UC", "UN", "UR", "UT", "UV"];

@@ -42,8 +42,12 @@ returns-2 : tie.Need-returns-2
 returns-2 c =
     let at-if1 = c .before .before in
     let at-start = at-if1 .before in
-    rw (before-month (at-start .args .y) (at-start .args .m) (at-start .pre .1), le-ltb _ _ (at-if1 .if1 .left), sym
-      (c .before .is-leap .ensures) ∙ c .if2 .taken) refl
+    rw (
+      before-month (at-start .args .y) (at-start .args .m) (at-start .pre .1),
+      le-ltb _ _ (at-if1 .if1 .left),
+      sym
+          (c .before .is-leap .ensures) ∙ c .if2 .taken,
+    ) refl
 
 -- src/lib.rt:78:6
 mul-result-3 : tie.Need-mul-result-3
@@ -58,8 +62,12 @@ returns-3 : tie.Need-returns-3
 returns-3 c =
     let at-if1 = c .before .before in
     let at-start = at-if1 .before in
-    rw (before-month (at-start .args .y) (at-start .args .m) (at-start .pre .1), le-ltb _ _ (at-if1 .if1 .left), sym
-      (c .before .is-leap .ensures) ∙ c .if2 .left) (omega arith)
+    rw (
+      before-month (at-start .args .y) (at-start .args .m) (at-start .pre .1),
+      le-ltb _ _ (at-if1 .if1 .left),
+      sym
+          (c .before .is-leap .ensures) ∙ c .if2 .left,
+    ) (omega arith)
 
 pub before-month-spec : {M : Type 1} → statement M
 before-month-spec =

@@ -60,7 +60,7 @@ returns-2 c =
     let at-loop = at-piece-end .before in
     let at-start = at-loop .before .before .before .before in
     judge-bad (at-loop .loop .inv) (at-piece-end .piece-end .ensures) (at-moved-date .moved-date .ensures)
-      (ap dateIn (c .enum-told .given .1)) (toZ-ofZ (at-start .fits .days))
+    (ap dateIn (c .enum-told .given .1)) (toZ-ofZ (at-start .fits .days))
 
 -- src/lib.rt:280:20
 enum-told-2 : tie.Need-enum-told-2 Inv-loop μ-loop
@@ -74,7 +74,7 @@ returns-3 c =
     let at-loop = at-piece-end .before in
     let at-start = at-loop .before .before .before .before in
     judge-last (at-loop .loop .inv) (at-piece-end .piece-end .ensures) (at-moved-date .moved-date .ensures)
-      (ap dateIn (c .before .enum-told2 .given .1)) (c .if2 .taken) (toZ-ofZ (at-start .fits .days))
+    (ap dateIn (c .before .enum-told2 .given .1)) (c .if2 .taken) (toZ-ofZ (at-start .fits .days))
 
 -- src/lib.rt:283:21
 add-a : tie.Need-add-a Inv-loop μ-loop
@@ -101,7 +101,7 @@ loop-again c =
     let at-loop = at-piece-end .before in
     let u = judge-cut (at-loop .loop .inv) (at-piece-end .piece-end .ensures) in
     judge-on (at-loop .loop .inv) (at-piece-end .piece-end .ensures) (at-moved-date .moved-date .ensures)
-      (ap dateIn (c .before .enum-told2 .given .1)) (omega (arith, u .upto, c .if2 .left))
+    (ap dateIn (c .before .enum-told2 .given .1)) (omega (arith, u .upto, c .if2 .left))
 
 pub date-fault-spec : {M : Type 1} → statement M
 date-fault-spec =

@@ -43,9 +43,12 @@ before-month-requires c κs =
     let y = at-year-of .year-of .result in
     let w = at-year-of .year-of .ensures in
     let i = at-start .args .n - c .before .before-year .result in
-    omega (arith, month-in y i (c .month-of .result) (omega (arith, w .0, c .before .before-year .ensures))
-      (omega (arith, w .1, c .before .before-year .ensures, before-one yearLen y))
-      (c .month-of .ensures))
+    omega (
+      arith,
+      month-in y i (c .month-of .result) (omega (arith, w .0, c .before .before-year .ensures))
+          (omega (arith, w .1, c .before .before-year .ensures, before-one yearLen y))
+          (c .month-of .ensures),
+    )
 
 -- src/lib.rt:127:36
 sub-t6 : tie.Need-sub-t6
@@ -59,7 +62,7 @@ returns c =
     let at-start = at-year-of .before in
     let n = at-start .args .n in
     date-within n (n - at-before-year .before-year .result) _ (at-start .pre .1) (at-year-of .year-of .ensures)
-      (ap (λ k. n - k) (at-before-year .before-year .ensures)) (c .before .month-of .ensures)
+    (ap (λ k. n - k) (at-before-year .before-year .ensures)) (c .before .month-of .ensures)
     (ap (λ k. n - at-before-year .before-year .result - k) (c .before-month .ensures))
 
 pub date-of-spec : {M : Type 1} → statement M

@@ -33,7 +33,7 @@ returns c =
     let at-if1 = at-if2 .before in
     let at-start = at-if1 .before in
     let a = at-start .args in ends-pad (a .da) (a .s .now) (a .from) (a .to) (at-start .pre .1) (at-if1 .if1 .taken) (at-if2 .if2 .taken)
-      (at-if3 .if3 .taken) (c .if4 .taken)
+    (at-if3 .if3 .taken) (c .if4 .taken)
 
 -- src/lib.rt:244:1
 returns-2 : tie.Need-returns-2
@@ -42,7 +42,7 @@ returns-2 c =
     let at-if1 = at-if2 .before in
     let at-start = at-if1 .before in
     let a = at-start .args in ends-text (a .da) (a .s .now) (a .from) (a .to) (at-start .pre .1) (at-if1 .if1 .taken) (at-if2 .if2 .taken)
-      (c .if4 .left)
+    (c .if4 .left)
 
 -- src/lib.rt:244:1
 returns-3 : tie.Need-returns-3
@@ -50,14 +50,14 @@ returns-3 c =
     let at-if1 = c .before .before in
     let at-start = at-if1 .before in
     let a = at-start .args in ends-odd (a .da) (a .s .now) (a .from) (a .to) (at-start .pre .1) (at-start .pre .0) (at-if1 .if1 .taken)
-      (c .if3 .left)
+    (c .if3 .left)
 
 -- src/lib.rt:244:1
 returns-4 : tie.Need-returns-4
 returns-4 c =
     let at-start = c .before .before in
     let a = at-start .args in ends-none (a .da) (a .s .now) (a .from) (a .to) (at-start .pre .1)
-      (omega (arith, at-start .pre .0, c .if2 .left))
+    (omega (arith, at-start .pre .0, c .if2 .left))
 
 -- src/lib.rt:244:1
 returns-5 : tie.Need-returns-5

@@ -29,8 +29,12 @@ returns-3 c =
     let at-if3 = c .before .before in
     let at-if1 = at-if3 .before .before in
     let at-start = at-if1 .before in
-    rw (month-closed (at-start .args .y) (at-start .args .m) (omega arith), le-ltb _ _ (at-if1 .if1 .left), eq-eqb _ _ (at-if3 .if3 .taken),
-      sym (c .before .is-leap .ensures) ∙ c .if4 .taken)
+    rw (
+      month-closed (at-start .args .y) (at-start .args .m) (omega arith),
+      le-ltb _ _ (at-if1 .if1 .left),
+      eq-eqb _ _ (at-if3 .if3 .taken),
+      sym (c .before .is-leap .ensures) ∙ c .if4 .taken,
+    )
     refl
 
 -- src/lib.rt:54:9
@@ -39,8 +43,12 @@ returns-4 c =
     let at-if3 = c .before .before in
     let at-if1 = at-if3 .before .before in
     let at-start = at-if1 .before in
-    rw (month-closed (at-start .args .y) (at-start .args .m) (omega arith), le-ltb _ _ (at-if1 .if1 .left), eq-eqb _ _ (at-if3 .if3 .taken),
-      sym (c .before .is-leap .ensures) ∙ c .if4 .left)
+    rw (
+      month-closed (at-start .args .y) (at-start .args .m) (omega arith),
+      le-ltb _ _ (at-if1 .if1 .left),
+      eq-eqb _ _ (at-if3 .if3 .taken),
+      sym (c .before .is-leap .ensures) ∙ c .if4 .left,
+    )
     refl
 
 -- src/lib.rt:56:11

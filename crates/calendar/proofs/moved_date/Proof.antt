@@ -23,8 +23,12 @@ moved-at-requires : tie.Need-moved-at-requires
 moved-at-requires c κs =
     let at-start = c .before .before .before in
     let a = at-start .args in
-    omega (arith, long (a .da) (a .s .now) (a .a) (a .b) (at-start .pre .1) (a .days) (toZ-ofZ (at-start .fits .days))
-      (c .before .right-length .ensures) (c .if1 .taken), at-start .pre .1)
+    omega (
+      arith,
+      long (a .da) (a .s .now) (a .a) (a .b) (at-start .pre .1) (a .days) (toZ-ofZ (at-start .fits .days))
+          (c .before .right-length .ensures) (c .if1 .taken),
+      at-start .pre .1,
+    )
 
 -- src/lib.rt:227:9
 returns : tie.Need-returns
@@ -33,7 +37,7 @@ returns c =
     let at-start = at-right-length .before .before in
     let a = at-start .args in
     at-date (a .da) (a .s .now) (a .a) (a .b) (at-start .pre .1) (a .days) (toZ-ofZ (at-start .fits .days))
-      (at-right-length .right-length .ensures) (c .before .if1 .taken) (c .moved-at .ensures)
+    (at-right-length .right-length .ensures) (c .before .if1 .taken) (c .moved-at .ensures)
 
 -- src/lib.rt:222:1
 returns-2 : tie.Need-returns-2
@@ -41,7 +45,7 @@ returns-2 c =
     let at-start = c .before .before .before in
     let a = at-start .args in
     no-date (a .da) (a .s .now) (a .a) (a .b) (at-start .pre .1) (a .days) (toZ-ofZ (at-start .fits .days))
-      (c .before .right-length .ensures) (c .if1 .left)
+    (c .before .right-length .ensures) (c .if1 .left)
 
 pub moved-date-spec : {M : Type 1} → statement M
 moved-date-spec =

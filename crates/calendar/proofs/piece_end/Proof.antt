@@ -36,7 +36,7 @@ returns c =
     let at-loop = at-loop-test .before in
     let at-start = at-loop .before in
     sym (end-mark (at-start .args .s .now) (at-start .args .stop) (at-start .pre .1) (at-loop .loop .b) (at-loop-test .loop-test .taken)
-      (c .if1 .taken)) ∙ at-loop .loop .inv .2
+    (c .if1 .taken)) ∙ at-loop .loop .inv .2
 
 -- src/lib.rt:238:9
 add-b : tie.Need-add-b Inv-loop μ-loop
@@ -53,16 +53,19 @@ loop-again : tie.Need-loop-again Inv-loop μ-loop
 loop-again c =
     let at-loop-test = c .before .before in
     let at-loop = at-loop-test .before in
-    let at-start = at-loop .before in
-    (omega arith, omega arith, end-more (at-start .args .s .now) (at-start .args .stop) (at-start .pre .1) (at-loop .loop .b)
-      (at-loop-test .loop-test .taken) (c .if1 .left) ∙ at-loop .loop .inv .2)
+    let at-start = at-loop .before in (
+      omega arith,
+      omega arith,
+      end-more (at-start .args .s .now) (at-start .args .stop) (at-start .pre .1) (at-loop .loop .b)
+          (at-loop-test .loop-test .taken) (c .if1 .left) ∙ at-loop .loop .inv .2,
+    )
 
 -- src/lib.rt:229:1
 returns-2 : tie.Need-returns-2 Inv-loop μ-loop
 returns-2 c =
     let at-start = c .before .before in
     sym (end-none (at-start .args .s .now) (at-start .args .stop) (at-start .pre .1) (c .before .loop .b) (omega arith))
-      ∙ c .before .loop .inv .2
+    ∙ c .before .loop .inv .2
 
 pub piece-end-spec : {M : Type 1} → statement M
 piece-end-spec =

@@ -36,8 +36,12 @@ put-date-requires c κs =
     let at-moved-date = at-m .before .before in
     let at-start = at-moved-date .before .before .before in
     let a = at-start .args in
-    omega (arith, put-long (a .da) (a .s .now) (a .a) (a .b) (at-start .pre .1) (a .days) (toZ-ofZ (at-start .fits .days))
-      (at-moved-date .moved-date .ensures) (ap dateIn (at-m .m .given .1)), at-start .pre .2)
+    omega (
+      arith,
+      put-long (a .da) (a .s .now) (a .a) (a .b) (at-start .pre .1) (a .days) (toZ-ofZ (at-start .fits .days))
+          (at-moved-date .moved-date .ensures) (ap dateIn (at-m .m .given .1)),
+      at-start .pre .2,
+    )
 
 -- src/lib.rt:317:35
 add-copy-block : tie.Need-add-copy-block
@@ -50,8 +54,12 @@ add-copy-block-2 c =
     let at-moved-date = at-m .before .before in
     let at-start = at-moved-date .before .before .before in
     let a = at-start .args in
-    omega (arith, put-long (a .da) (a .s .now) (a .a) (a .b) (at-start .pre .1) (a .days) (toZ-ofZ (at-start .fits .days))
-      (at-moved-date .moved-date .ensures) (ap dateIn (at-m .m .given .1)), at-start .pre .2)
+    omega (
+      arith,
+      put-long (a .da) (a .s .now) (a .a) (a .b) (at-start .pre .1) (a .days) (toZ-ofZ (at-start .fits .days))
+          (at-moved-date .moved-date .ensures) (ap dateIn (at-m .m .given .1)),
+      at-start .pre .2,
+    )
 
 -- src/lib.rt:317:13
 copy-block-requires-2 : tie.Need-copy-block-requires-2
@@ -60,8 +68,13 @@ copy-block-requires-2 c κs =
     let at-moved-date = at-m .before .before in
     let at-start = at-moved-date .before .before .before in
     let a = at-start .args in
-    omega (arith, put-long (a .da) (a .s .now) (a .a) (a .b) (at-start .pre .1) (a .days) (toZ-ofZ (at-start .fits .days))
-      (at-moved-date .moved-date .ensures) (ap dateIn (at-m .m .given .1)), at-start .pre .1, at-start .pre .2)
+    omega (
+      arith,
+      put-long (a .da) (a .s .now) (a .a) (a .b) (at-start .pre .1) (a .days) (toZ-ofZ (at-start .fits .days))
+          (at-moved-date .moved-date .ensures) (ap dateIn (at-m .m .given .1)),
+      at-start .pre .1,
+      at-start .pre .2,
+    )
 
 -- src/lib.rt:308:1
 same-length : tie.Need-same-length
@@ -76,7 +89,7 @@ returns c =
     let at-start = at-moved-date .before .before .before in
     let a = at-start .args in
     let e = put-same (a .da) (a .s .now) (a .a) (a .b) (at-start .pre .1) (a .days) (toZ-ofZ (at-start .fits .days))
-      (at-moved-date .moved-date .ensures) (ap dateIn (at-enum-told .enum-told .given .1)) in
+    (at-moved-date .moved-date .ensures) (ap dateIn (at-enum-told .enum-told .given .1)) in
     (at-copy-block .copy-block .ensures .0, at-copy-block .copy-block .ensures .1 ∙ ap (laid (a .out .now) (a .pos)) e)
 
 -- src/lib.rt:308:1
@@ -93,11 +106,12 @@ returns-2 c =
     let at-start = at-moved-date .before .before .before in
     let a = at-start .args in
     let l = put-long (a .da) (a .s .now) (a .a) (a .b) (at-start .pre .1) (a .days) (toZ-ofZ (at-start .fits .days))
-      (at-moved-date .moved-date .ensures) (ap dateIn (at-m .m .given .1)) in
-    (omega (arith, l, at-copy-block2 .copy-block2 .ensures .0),
-    put-moved (a .da) (a .s .now) (a .a) (a .b) (at-start .pre .1) (a .days) (toZ-ofZ (at-start .fits .days))
-      (at-moved-date .moved-date .ensures) (ap dateIn (at-m .m .given .1))
-      (a .out .now) (a .pos) (at-put-date .put-date .ensures) (at-copy-block2 .copy-block2 .ensures .1))
+    (at-moved-date .moved-date .ensures) (ap dateIn (at-m .m .given .1)) in (
+      omega (arith, l, at-copy-block2 .copy-block2 .ensures .0),
+      put-moved (a .da) (a .s .now) (a .a) (a .b) (at-start .pre .1) (a .days) (toZ-ofZ (at-start .fits .days))
+          (at-moved-date .moved-date .ensures) (ap dateIn (at-m .m .given .1))
+          (a .out .now) (a .pos) (at-put-date .put-date .ensures) (at-copy-block2 .copy-block2 .ensures .1),
+    )
 
 pub put-piece-spec : {M : Type 1} → statement M
 put-piece-spec =

@@ -78,10 +78,11 @@ returns c =
     let at-loop = at-piece-end .before in
     let at-start = at-loop .before .before .before .before in
     let g = at-loop .loop .inv in
-    let e = write-end g (at-piece-end .piece-end .ensures) (at-put-piece .put-piece .ensures) in
-    (omega (arith, at-copy-block .copy-block .ensures .0, e, g .lo, g .hi, g .upto, at-if1 .if1 .taken),
-    write-last g (at-piece-end .piece-end .ensures) (at-put-piece .put-piece .ensures) (at-if1 .if1 .taken) (toZ-ofZ (at-start .fits .days))
-      (at-copy-block .copy-block .ensures .1))
+    let e = write-end g (at-piece-end .piece-end .ensures) (at-put-piece .put-piece .ensures) in (
+      omega (arith, at-copy-block .copy-block .ensures .0, e, g .lo, g .hi, g .upto, at-if1 .if1 .taken),
+      write-last g (at-piece-end .piece-end .ensures) (at-put-piece .put-piece .ensures) (at-if1 .if1 .taken) (toZ-ofZ (at-start .fits .days))
+          (at-copy-block .copy-block .ensures .1),
+    )
 
 -- src/lib.rt:340:9
 put-requires : tie.Need-put-requires Inv-loop μ-loop
@@ -106,8 +107,10 @@ add-p c =
     let at-loop = at-piece-end .before in
     let at-start = at-loop .before .before .before .before in
     let u = write-cut (at-loop .loop .inv) (at-piece-end .piece-end .ensures) in
-    record { fits = write-next (at-loop .loop .inv) (at-piece-end .piece-end .ensures) (at-put-piece .put-piece .ensures) (2 ^ 64)
-      (omega (arith, u .upto, at-if1 .if1 .left)) (at-start .pre .2) }
+    record {
+      fits = write-next (at-loop .loop .inv) (at-piece-end .piece-end .ensures) (at-put-piece .put-piece .ensures) (2 ^ 64)
+          (omega (arith, u .upto, at-if1 .if1 .left)) (at-start .pre .2);
+    }
 
 -- src/lib.rt:334:5
 loop-less : tie.Need-loop-less Inv-loop μ-loop
@@ -128,7 +131,7 @@ loop-again c =
     let at-loop = at-piece-end .before in
     let u = write-cut (at-loop .loop .inv) (at-piece-end .piece-end .ensures) in
     write-on (at-loop .loop .inv) (at-piece-end .piece-end .ensures) (at-put-piece .put-piece .ensures)
-      (omega (arith, u .upto, at-if1 .if1 .left)) (at-put .put .ensures)
+    (omega (arith, u .upto, at-if1 .if1 .left)) (at-put .put .ensures)
 
 pub put-shifted-spec : {M : Type 1} → statement M
 put-shifted-spec =

@@ -91,9 +91,9 @@ returns c =
     let at-start = at-is-real .before in
     ap some (c .date-of .ensures)
     ∙ moved-in (at-start .args .self) (at-start .args .days) (toZ-ofZ (at-start .fits .days)) (at-before-year .before-year .ensures)
-      (at-before-month .before-month .ensures) (at-later-day .later-day .ensures)
-      (at-is-real .is-real .ensures) (at-if1 .if1 .taken) (omega (arith, at-before-year2 .before-year2 .ensures))
-        (omega (arith, at-before-year3 .before-year3 .ensures))
+    (at-before-month .before-month .ensures) (at-later-day .later-day .ensures)
+    (at-is-real .is-real .ensures) (at-if1 .if1 .taken) (omega (arith, at-before-year2 .before-year2 .ensures))
+    (omega (arith, at-before-year3 .before-year3 .ensures))
 
 -- src/lib.rt:147:5
 returns-2 : tie.Need-returns-2
@@ -105,7 +105,7 @@ returns-2 c =
     let at-is-real = at-if1 .before in
     let at-start = at-is-real .before in
     moved-high (at-start .args .self) (at-start .args .days) (toZ-ofZ (at-start .fits .days)) (at-before-year .before-year .ensures)
-      (at-before-month .before-month .ensures) (at-later-day .later-day .ensures)
+    (at-before-month .before-month .ensures) (at-later-day .later-day .ensures)
     (at-is-real .is-real .ensures) (at-if1 .if1 .taken) (omega (arith, c .before .before-year3 .ensures, c .if3 .left))
 
 -- src/lib.rt:147:5
@@ -118,7 +118,7 @@ returns-3 c =
     let at-is-real = at-if1 .before in
     let at-start = at-is-real .before in
     moved-low (at-start .args .self) (at-start .args .days) (toZ-ofZ (at-start .fits .days)) (at-before-year .before-year .ensures)
-      (at-before-month .before-month .ensures) (at-later-day .later-day .ensures)
+    (at-before-month .before-month .ensures) (at-later-day .later-day .ensures)
     (at-is-real .is-real .ensures) (at-if1 .if1 .taken) (omega (arith, c .before .before-year2 .ensures, c .if2 .left))
 
 -- src/lib.rt:147:5
