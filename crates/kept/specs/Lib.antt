@@ -3,6 +3,7 @@ pub mod Fates
 pub mod Content
 pub mod Kept
 pub mod Numbering
+pub mod Renaming
 pub mod Fillers
 pub mod Marks
 pub mod Written

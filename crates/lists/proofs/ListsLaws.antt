@@ -1,4 +1,11 @@
 -- Laws of `specs/Lists.antt`. No contract cites this file. Assumes nothing.
+--     then-some, pick-some, both            what led to something that was found: for `then`, `pick` and `&&`
+--     entryAt-tagless, entryAt-short, entryAt-empty, entryAt-long, entryAt-cut, entryAt-is     one for each way of `entry_at`
+--     Within s e, entryAt-within            an entry that was read: its tag is small enough, its value 1 to 64 bytes within the list
+--     every-end, every-turn                 every byte of a part keeps a test: for the loop of `plain_value`
+--     from-suc, isRead-then                 a number that is not 0; what goes on is read where it was read so far
+--     Judging s at left low                 the entries from the place `at` on say whether the whole list keeps the rule
+--     judging-start, judging-end, judging-many, judging-broken, judging-falls, judging-odd, judging-next    one for each way of the loop of `list_ok`
 use mathlib.Core.Path.{_≡_, refl, sym, ap, _∙_}
 use mathlib.Core.Bool.{Bool, true, false, _&&_, not, and-false, and-true, and-assoc, false≢true}
 use mathlib.Core.List.{List, [], _∷_}

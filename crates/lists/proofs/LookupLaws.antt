@@ -4,6 +4,8 @@
 --     find-within, find-tag              an entry that was found lies within the list, and has the tag
 --     find-entry                         of a list that keeps the rule it is the entry for that tag
 --     found-length, found-chars          its value has 1 to 64 bytes, and only the characters that it may
+--     listOk-entries                     a list that keeps the rule was read
+--     asked-study, asked-site, asked-neither     what is asked, by what was found in each list
 --     asked-length, asked-chars          the same of what is asked of two lists
 --     asked-none, asked-some             what bytes that were shown say of what was asked
 use mathlib.Core.Path.{_≡_, refl, sym, ap, _∙_}

@@ -66,21 +66,31 @@ impl Case {
         if kind == 0 {
             return Case::from_rubble(random);
         }
-        let mut set = if kind == 1 { DataSet::too_deep(random) } else { DataSet::well_formed(random) };
-        let mut made = String::from(if kind == 1 { "too deep" } else { "well-formed" });
+        let (mut set, mut made) = match kind {
+            1 => (DataSet::too_deep(random), String::from("too deep")),
+            _ => (DataSet::well_formed(random), String::from("well-formed")),
+        };
         let tags = tags_to_ask(&set, random);
-        let mut behind = behind(random);
-        if kind >= 6 || (kind == 1 && random.one_in(2)) {
-            let before = set.bytes.clone();
-            for _ in 0..random.pick(&[1, 1, 1, 1, 2, 3]) {
-                if let Some(damage) = damage::any(&mut set, random) {
-                    made += &format!(", {damage:?}");
+        let whole = set.bytes.clone();
+        match (kind, set.first_too_deep()) {
+            (1, Some(item)) if random.one_in(2) => {
+                damage::at(&item, &mut set, random);
+                made += ", damaged there";
+            }
+            (6.., _) => {
+                for _ in 0..random.pick(&[1, 1, 1, 1, 2, 3]) {
+                    if let Some(damage) = damage::any(&mut set, random) {
+                        made += &format!(", {damage:?}");
+                    }
                 }
             }
-            if set.bytes.len() < before.len() && before.starts_with(&set.bytes) {
-                behind = before[set.bytes.len()..].to_vec();
-            }
+            _ => {}
         }
+        // Behind a data set that was cut stands what was cut off.
+        let behind = match whole.strip_prefix(&set.bytes[..]) {
+            Some(rest @ [_, ..]) => rest.to_vec(),
+            _ => behind(random),
+        };
         let lent = Lent::among(&set.bytes, &behind, random.below(8));
         Case { made, lent, tags }
     }

@@ -77,6 +77,22 @@ pub fn any(set: &mut DataSet, random: &mut Random) -> Option<Damage> {
     tries.into_iter().find(|damage| damage.strike(set, random).is_some())
 }
 
+/// Damages the header or mark at one place: its length, its tag, a bit of it, or the data set ends in it.
+pub fn at(place: &Place, set: &mut DataSet, random: &mut Random) {
+    match random.below(4) {
+        0 => {
+            let length = odd_length(set, place, random);
+            write_length(set, place, length);
+        }
+        1 => {
+            let tag = odd_tag(set, place, random);
+            write(set, place.at, &tag_bytes(tag));
+        }
+        2 => set.bytes[place.at + random.below(place.header)] ^= 1 << random.below(8),
+        _ => set.bytes.truncate(place.at + random.below(place.header)),
+    }
+}
+
 impl Damage {
     /// Damages the data set; none if it has no place for this. The places behind stay right, but where the
     /// damage has changed what they are: whoever strikes again strikes by the old plan, and never past the
@@ -376,6 +392,8 @@ fn leftover(random: &mut Random) -> Bytes {
         head(LAST_TAG, "SQ", UNDEFINED),
         head(LAST_TAG, "CS", 2),
         head(LAST_TAG, "OX", 0),
+        [&tag_bytes(LAST_TAG)[..], b"OB\x01\0", &[0; 4]].concat(),
+        [&tag_bytes(LAST_TAG)[..], b"UT\0\x01", &[1; 4]].concat(),
         item_end(),
         sequence_end(),
         item(&[]),

@@ -73,6 +73,19 @@ impl DataSet {
         Maker::make(random, spine)
     }
 
+    /// The item at fault in a data set that is too deep.
+    pub fn first_too_deep(&self) -> Option<Place> {
+        let is_it = |&place: &usize| self.places[place].kind == Kind::Item && self.depth(place) == DEEPEST;
+        (0..self.places.len()).find(is_it).map(|place| self.places[place])
+    }
+
+    /// How many items a place stands in.
+    pub fn depth(&self, place: usize) -> usize {
+        let around =
+            std::iter::successors(self.places[place].container, |&place| self.places[place].container);
+        around.filter(|&place| self.places[place].kind == Kind::Item).count()
+    }
+
     pub fn top_level_tags(&self) -> Vec<u32> {
         self.element_tags(|place| place.container.is_none())
     }
@@ -133,7 +146,7 @@ struct Maker<'r> {
 }
 
 impl Maker<'_> {
-    /// A data set with items at least `spine` deep, and deeper than 8 only on the spine.
+    /// A data set with items at least `spine` deep, and deeper than 8 only along the spine.
     fn make(random: &mut Random, spine: usize) -> DataSet {
         let liked = std::array::from_fn(|_| allowed_tag(random));
         let left = random.pick(&[10, 30, 30, 60, 60, 500]);

@@ -25,11 +25,7 @@ pub const ALL: [Fault; 22] = [
     Fault { name: "lower-case", what: "F16 a VR may be in lower case", view: lower_case },
     Fault { name: "zero-bytes", what: "F17 the two zero bytes may be others", view: zero_bytes },
     Fault { name: "un-undefined", what: "F18 UN may have undefined length", view: un_undefined },
-    Fault {
-        name: "past-the-end-first",
-        what: "F19 6 for 9 where an odd length passes the end",
-        view: past_the_end_first,
-    },
+    Fault { name: "past-the-end-first", what: "F19 past the end goes before odd", view: past_the_end_first },
     Fault { name: "longest-refused", what: "F22 268,435,456 bytes are too long", view: longest_refused },
     Fault { name: "too-long-accepted", what: "F22 268,435,457 bytes are looked at", view: too_long_accepted },
     Fault { name: "reads-on", what: "bytes past the end are read", view: reads_on },
@@ -38,11 +34,7 @@ pub const ALL: [Fault; 22] = [
     Fault { name: "found-in-items", what: "V2 an element in an item is found", view: found_in_items },
     Fault { name: "tag-cut", what: "V2 the number asked for is cut to 32 bits", view: tag_cut },
     Fault { name: "start-at-header", what: "V3 the part begins at the header", view: start_at_header },
-    Fault {
-        name: "end-mark-left-out",
-        what: "V3 the part ends before its end mark",
-        view: end_mark_left_out,
-    },
+    Fault { name: "end-mark-left-out", what: "V3 its end mark is not in the part", view: end_mark_left_out },
     Fault { name: "empty-is-absent", what: "V4 an empty element is absent", view: empty_is_absent },
 ];
 
@@ -50,14 +42,12 @@ fn right(lent: &Lent, tag: u64) -> Answer {
     expected(lent.data(), tag)
 }
 
+/// Given a data set and the offset of its fault: where to write and what, or none to leave it.
+type Repair = fn(&[u8], usize) -> Option<(usize, Bytes)>;
+
 /// The answer once faults of this number are repaired, as far as `repair` says which bytes to write where. A
 /// repair that does not take the fault away is left.
-fn repaired(
-    lent: &Lent,
-    tag: u64,
-    number: u64,
-    repair: fn(&[u8], usize) -> Option<(usize, Bytes)>,
-) -> Answer {
+fn repaired(lent: &Lent, tag: u64, number: u64, repair: Repair) -> Answer {
     let mut answer = right(lent, tag);
     let mut data = Bytes::new();
     loop {

@@ -12,7 +12,7 @@ use crate::random::Random;
 use crate::shrink::shrunk;
 use crate::view::{Answer, expected};
 
-const SEEDS: u64 = 3_000;
+const SEEDS: u64 = 1_000;
 
 fn well_formed(seed: u64) -> DataSet {
     DataSet::well_formed(&mut Random::new(seed))
@@ -52,14 +52,9 @@ fn the_places_are_where_they_say() {
 fn data_sets_that_are_too_deep_are_refused_for_that_alone() {
     for seed in 0..SEEDS {
         let set = DataSet::too_deep(&mut Random::new(seed));
-        assert_eq!(expected(&set.bytes, 0).refusal, 10, "seed {seed}");
+        let item = set.first_too_deep().unwrap();
+        assert_eq!(expected(&set.bytes, 0), Answer::refused(10, item.at as u64), "seed {seed}");
     }
-}
-
-/// How many items a place stands in.
-fn depth(set: &DataSet, place: usize) -> usize {
-    let around = std::iter::successors(Some(place), |&place| set.places[place].container);
-    around.skip(1).filter(|&place| set.places[place].kind == Kind::Item).count()
 }
 
 #[test]
@@ -88,7 +83,7 @@ fn every_kind_of_thing_is_made() {
             if let Some(container) = place.container {
                 styles.insert((place.undefined, set.places[container].undefined));
             }
-            deepest = deepest.max(depth(&set, index));
+            deepest = deepest.max(set.depth(index));
         }
     }
     assert_eq!(vrs.len(), 34);
@@ -138,6 +133,20 @@ fn each_damage_leads_to_the_refusals_it_is_for() {
     leads_to(Damage::Leftover, &[6, 7, 8]);
     leads_to(Damage::Doubled, &[0, 7]);
     leads_to(Damage::Exchanged, &[7]);
+}
+
+#[test]
+fn damage_at_the_ninth_item_shows_what_goes_before_its_depth() {
+    let strike = |seed| {
+        let random = &mut Random::new(seed);
+        let mut set = DataSet::too_deep(random);
+        let item = set.first_too_deep().unwrap();
+        damage::at(&item, &mut set, random);
+        let answer = expected(&set.bytes, 0);
+        assert_eq!(answer.offset, item.at as u64, "seed {seed}");
+        answer.refusal
+    };
+    assert_eq!((0..SEEDS).map(strike).collect::<BTreeSet<_>>().into_iter().collect::<Vec<_>>(), [6, 7, 10]);
 }
 
 #[test]

@@ -1,0 +1,175 @@
+-- Laws of `specs/Answer.antt` and `specs/Conditions.antt`. No contract cites this file. Assumes nothing.
+--     First cs i n o       the condition with the number n is the first of cs that holds of i, at the offset o
+--     answer-refused       DEMAND 1, over the definitions: refused with n at o exactly when condition n is the first to hold, there
+--     Accepted i, accepted     what is known of a run that is done: no condition holds
+use mathlib.Core.Path.{_≡_, refl, sym, ap, _∙_}
+use mathlib.Core.Logic.{_↔_, ⊎-elim}
+use Rattle.basis.proofs.ChoiceLaws.{both-true}
+use mathlib.Core.Bool.{Bool, true, false, not, _&&_}
+use mathlib.Core.List.{List, [], _∷_}
+use mathlib.Core.Option.{Option, none, some}
+use Prim.Native.Nat.{ℕ, _≤_}
+use native.Mathlib.Omega.{arith}
+use lib.Dec.{eqb, ltb}
+use lib.ListN.{length}
+use borrow.Author.Tests.{ltb-false, eqb-false}
+use Rattle.basis.specs.Choice.{pick}
+use Rattle.kept.proofs.FaultsLaws.{Eleven, firstFault-number}
+use Rattle.layout.specs.Limits.{deepest, longest}
+use Rattle.layout.specs.Tree.{Elements, Place}
+use Rattle.layout.specs.Read.{Result, good, fault, read}
+use Rattle.layout.proofs.MadeLaws.{read-fault}
+use Rattle.uid.specs.Uid.{isRoot}
+use Rattle.ledger.specs.Slots.{slotsOf}
+use Rattle.lists.specs.Lists.{listOk}
+use Rattle.options.specs.Settings.{settingsFault}
+use Rattle.kept.specs.Fates.{top}
+use Rattle.kept.specs.Faults.{Fault, firstFault}
+use Rattle.answer.specs.Input.{Input, readAs, treeOf, treeIn, slotsAfter, bytesFor}
+use Rattle.answer.specs.Conditions.{when, condition1, condition2, condition3, condition4, condition5, shapeCondition, valueCondition, condition13, condition14, faultIs, valueIs, conditions}
+use Rattle.answer.specs.Answer.{Outcome, refused, done, firstOf, answer}
+
+-- ---- firstOf
+
+abbrev Tests : Type 0
+Tests = List (ℕ × (Input → Option ℕ))
+
+-- the first that holds, with none before it
+pub data First (i : Input) (n o : ℕ) : Tests → Type 0 where
+  here : {t : Input → Option ℕ} {cs : Tests} → t i ≡ some o → First i n o ((n, t) ∷ cs)
+  later : {c : ℕ × (Input → Option ℕ)} {cs : Tests} → c .1 i ≡ none → First i n o cs → First i n o (c ∷ cs)
+
+module _ (i : Input) (c : ℕ × (Input → Option ℕ)) (cs : Tests) where
+  firstOf-holds : (o : ℕ) → c .1 i ≡ some o → firstOf (c ∷ cs) i ≡ refused (c .0) o
+  unfolding firstOf
+  firstOf-holds o e = rw (e, firstOf)
+
+  firstOf-next : c .1 i ≡ none → firstOf (c ∷ cs) i ≡ firstOf cs i
+  unfolding firstOf
+  firstOf-next e = rw (e, firstOf)
+
+first-from : (cs : Tests) (i : Input) (n o : ℕ) → First i n o cs → firstOf cs i ≡ refused n o
+first-from (c ∷ cs) i n o (here e) = firstOf-holds i c cs o e
+first-from (c ∷ cs) i n o (later e f) = firstOf-next i c cs e ∙ first-from cs i n o f
+
+no-done : (n o : ℕ) → done ≡ refused n o → ⊥
+no-done n o e = let z : _≡_ {A = ℕ} 0 1 = cc in omega arith
+
+first-to : (cs : Tests) (i : Input) (n o : ℕ) → firstOf cs i ≡ refused n o → First i n o cs
+unfolding firstOf
+first-to [] i n o e = absurd (no-done n o e)
+first-to (c ∷ cs) i n o e = step (c .1 i) refl (λ f. first-to cs i n o f)
+  where
+    step : (x : Option ℕ) → c .1 i ≡ x → (firstOf cs i ≡ refused n o → First i n o cs) → First i n o (c ∷ cs)
+    step none q rest = later q (rest (sym (firstOf-next i c cs q) ∙ e))
+    step (some p) q rest =
+        let r : refused (c .0) p ≡ refused n o = sym (firstOf-holds i c cs p q) ∙ e in
+        let m : c .0 ≡ n = cc in
+        let k : p ≡ o = cc in
+        rw (← m) (here (q ∙ ap some k))
+
+-- ---- answer
+
+-- DEMAND 1, over the definitions
+pub answer-refused : (i : Input) (n o : ℕ) → (answer i ≡ refused n o) ↔ First i n o conditions
+unfolding answer
+answer-refused i n o = (first-to conditions i n o, first-from conditions i n o)
+
+-- ---- a run that is done
+
+firstOf-done : (c : ℕ × (Input → Option ℕ)) (cs : Tests) (i : Input) → firstOf (c ∷ cs) i ≡ done → (c .1 i ≡ none) × (firstOf cs i ≡ done)
+firstOf-done c cs i e = step (c .1 i) refl
+  where
+    step : (x : Option ℕ) → c .1 i ≡ x → (c .1 i ≡ none) × (firstOf cs i ≡ done)
+    step none q = (q, sym (firstOf-next i c cs q) ∙ e)
+    step (some o) q = absurd (no-done (c .0) o (sym e ∙ firstOf-holds i c cs o q))
+
+when-none : (b : Bool) (o : ℕ) → when b o ≡ none → b ≡ false
+when-none true o e = absurd (let z : _≡_ {A = ℕ} 0 1 = cc in omega arith)
+when-none false o e = refl
+
+-- what is known of such a run, one line for each condition
+pub record Accepted (i : Input) : Type 0 where
+  pub settings : settingsFault (i .settings .options) (i .settings .shift) ≡ false
+  pub root : isRoot (i .settings .root) ≡ true
+  pub slots : i .used ≤ slotsOf (i .ledger)
+  pub lists : (listOk (i .settings .study) ≡ true) × (listOk (i .settings .site) ≡ true)
+  pub short : length (i .lent) ≤ longest
+  pub tree : Elements Place
+  pub past : ℕ
+  pub reads : read deepest (i .lent) ≡ good tree past
+  pub values : firstFault tree (i .settings) top ≡ none
+  pub free : length (slotsAfter i) ≤ slotsOf (i .ledger)
+  pub room : length (bytesFor i) ≤ i .room
+
+not-false : (b : Bool) → not b ≡ false → b ≡ true
+not-false true e = refl
+not-false false e = sym e
+
+-- a shape without fault: the number of a fault is one of 6 to 10
+read-good : (s : List ℕ) (r : Result (Elements Place)) → read deepest s ≡ r → faultIs 6 r ≡ none → faultIs 7 r ≡ none → faultIs 8 r ≡ none
+    → faultIs 9 r ≡ none → faultIs 10 r ≡ none → (es : Elements Place) × (p : ℕ) × (r ≡ good es p)
+read-good s (good es p) e a b c d f = (es, p, refl)
+read-good s (fault n o) e a b c d f = absurd (none-left n (read-fault deepest s n o e .0) (read-fault deepest s n o e .1) (other 6 a) (other 7 b) (other 8 c) (other 9 d) (other 10 f))
+  where
+    other : (m : ℕ) → pick (eqb n m) (some o) none ≡ none → eqb n m ≡ false
+    other m q = step (eqb n m) q
+      where
+        step : (t : Bool) → pick t (some o) none ≡ none → t ≡ false
+        step true q = absurd (let z : _≡_ {A = ℕ} 0 1 = cc in omega arith)
+        step false q = refl
+
+    none-left : (n : ℕ) → 6 ≤ n → n ≤ 10 → eqb n 6 ≡ false → eqb n 7 ≡ false → eqb n 8 ≡ false → eqb n 9 ≡ false → eqb n 10 ≡ false → ⊥
+    none-left n lo hi a b c d f =
+        let p : n ≡ 6 → ⊥ = eqb-false n 6 a in
+        let q : n ≡ 7 → ⊥ = eqb-false n 7 b in
+        let r : n ≡ 8 → ⊥ = eqb-false n 8 c in
+        let t : n ≡ 9 → ⊥ = eqb-false n 9 d in
+        let u : n ≡ 10 → ⊥ = eqb-false n 10 f in
+        omega arith
+
+-- values without fault: the number of a fault is 11 or 12
+values-good : (x : Option Fault) → Eleven x → valueIs 11 x ≡ none → valueIs 12 x ≡ none → x ≡ none
+values-good none w a b = refl
+values-good (some f) w a b = absurd (⊎-elim (λ e. no-some (f .offset) (ap (λ n. pick (eqb n 11) (some (f .offset)) none) (sym e) ∙ a)) (λ e. no-some (f .offset) (ap (λ n. pick (eqb n 12) (some (f .offset)) none) (sym e) ∙ b)) w)
+  where
+    no-some : (o : ℕ) → some o ≡ none → ⊥
+    no-some o e = let z : _≡_ {A = ℕ} 0 1 = cc in omega arith
+
+module _ (i : Input) where
+  tree-is : (es : Elements Place) (p : ℕ) → read deepest (i .lent) ≡ good es p → treeOf i ≡ es
+  unfolding treeOf readAs
+  tree-is es p e = ap treeIn e
+
+  pub accepted : answer i ≡ done → Accepted i
+  unfolding answer condition1 condition2 condition3 condition4 condition5 shapeCondition valueCondition condition13 condition14 readAs
+  accepted e =
+      let a1 = firstOf-done _ _ i e in
+      let a2 = firstOf-done _ _ i (a1 .1) in
+      let a3 = firstOf-done _ _ i (a2 .1) in
+      let a4 = firstOf-done _ _ i (a3 .1) in
+      let a5 = firstOf-done _ _ i (a4 .1) in
+      let a6 = firstOf-done _ _ i (a5 .1) in
+      let a7 = firstOf-done _ _ i (a6 .1) in
+      let a8 = firstOf-done _ _ i (a7 .1) in
+      let a9 = firstOf-done _ _ i (a8 .1) in
+      let a10 = firstOf-done _ _ i (a9 .1) in
+      let a11 = firstOf-done _ _ i (a10 .1) in
+      let a12 = firstOf-done _ _ i (a11 .1) in
+      let a13 = firstOf-done _ _ i (a12 .1) in
+      let a14 = firstOf-done _ _ i (a13 .1) in
+      let l = both-true (listOk (i .settings .study)) (listOk (i .settings .site)) (not-false _ (when-none _ 0 (a4 .0))) in
+      let g = read-good (i .lent) (read deepest (i .lent)) refl (a6 .0) (a7 .0) (a8 .0) (a9 .0) (a10 .0) in
+      record {
+        settings = when-none _ 0 (a1 .0);
+        root = not-false _ (when-none _ 0 (a2 .0));
+        slots = ltb-false _ _ (when-none _ 0 (a3 .0));
+        lists = l;
+        short = ltb-false _ _ (when-none _ 0 (a5 .0));
+        tree = g .0;
+        past = g .1;
+        reads = g .2;
+        values = ap (λ es. firstFault es (i .settings) top) (sym (tree-is (g .0) (g .1) (g .2))) ∙ values-good _ (firstFault-number (treeOf i) (i .settings) top) (a11 .0) (a12 .0);
+        free = ltb-false _ _ (when-none _ 0 (a13 .0));
+        room = ltb-false _ _ (when-none _ 0 (a14 .0));
+      }

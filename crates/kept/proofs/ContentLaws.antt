@@ -1,0 +1,132 @@
+-- Laws of `specs/Content.antt`. No contract cites this file. Assumes nothing.
+--     mapContent-id, mapContent-map, mapContent-agree     a map that changes nothing; one after another; two that agree on the names
+--     Agree f g us                                        f and g agree on the names us
+--     namesIn-map, length-namesIn-map                     the names of a mapped content, and how many they are
+--     mapAll-id, mapAll-map, mapAll-agree, namesOf-map    the same of the contents of a batch
+--     namesOf-append                                      the names of two batches, one after the other
+-- Laws with Body or Walks in the place of Content say it of the other two types of the tree.
+use mathlib.Core.Path.{_≡_, refl, sym, ap, ap₂, _∙_}
+use mathlib.Core.List.{List, [], _∷_, _++_, map, map-id, map-map, map-append, append-assoc, List·Memᴰ, Memᴰ·append-left, Memᴰ·append-right}
+use lib.ListN.{length, length-map}
+use Rattle.ledger.proofs.RenameLaws.{map-agree}
+use Rattle.kept.specs.Content.{Body, shown, blank, uids, walk, Content, end, keep, Walks, last, each, mapBody, mapContent, mapWalks, namesInBody, namesIn, namesInWalks, mapAll, namesOf}
+
+-- ---- mapContent
+
+module _ {X : Type 0} where
+  mutual
+    unfolding mapContent
+
+    pub mapBody-id : (b : Body X) → mapBody (λ u. u) b ≡ b
+    mapBody-id (shown v) = refl
+    mapBody-id blank = refl
+    mapBody-id (uids us) = ap uids (map-id us)
+    mapBody-id (walk ws) = ap walk (mapWalks-id ws)
+
+    pub mapContent-id : (c : Content X) → mapContent (λ u. u) c ≡ c
+    mapContent-id end = refl
+    mapContent-id (keep tag vr b c) = ap₂ (keep tag vr) (mapBody-id b) (mapContent-id c)
+
+    pub mapWalks-id : (ws : Walks X) → mapWalks (λ u. u) ws ≡ ws
+    mapWalks-id last = refl
+    mapWalks-id (each c ws) = ap₂ each (mapContent-id c) (mapWalks-id ws)
+
+module _ {X Y Z : Type 0} (g : Y → Z) (f : X → Y) where
+  mutual
+    unfolding mapContent
+
+    pub mapBody-map : (b : Body X) → mapBody g (mapBody f b) ≡ mapBody (λ u. g (f u)) b
+    mapBody-map (shown v) = refl
+    mapBody-map blank = refl
+    mapBody-map (uids us) = ap uids (map-map g f us)
+    mapBody-map (walk ws) = ap walk (mapWalks-map ws)
+
+    pub mapContent-map : (c : Content X) → mapContent g (mapContent f c) ≡ mapContent (λ u. g (f u)) c
+    mapContent-map end = refl
+    mapContent-map (keep tag vr b c) = ap₂ (keep tag vr) (mapBody-map b) (mapContent-map c)
+
+    pub mapWalks-map : (ws : Walks X) → mapWalks g (mapWalks f ws) ≡ mapWalks (λ u. g (f u)) ws
+    mapWalks-map last = refl
+    mapWalks-map (each c ws) = ap₂ each (mapContent-map c) (mapWalks-map ws)
+
+module _ {X Y : Type 0} (f g : X → Y) where
+  -- f and g agree on the names of a list
+  abbrev pub Agree : List X → Type 0
+  Agree us = (u : X) → List·Memᴰ u us → f u ≡ g u
+
+  -- and so on the names of each of two parts
+  agree-left : (us ws : List X) → Agree (us ++ ws) → Agree us
+  agree-left us ws h u m = h u (Memᴰ·append-left ws m)
+
+  agree-right : (us ws : List X) → Agree (us ++ ws) → Agree ws
+  agree-right us ws h u m = h u (Memᴰ·append-right us m)
+
+  mutual
+    unfolding mapContent namesIn
+
+    pub mapBody-agree : (b : Body X) → Agree (namesInBody b) → mapBody f b ≡ mapBody g b
+    mapBody-agree (shown v) h = refl
+    mapBody-agree blank h = refl
+    mapBody-agree (uids us) h = ap uids (map-agree f g us h)
+    mapBody-agree (walk ws) h = ap walk (mapWalks-agree ws h)
+
+    pub mapContent-agree : (c : Content X) → Agree (namesIn c) → mapContent f c ≡ mapContent g c
+    mapContent-agree end h = refl
+    mapContent-agree (keep tag vr b c) h =
+        ap₂ (keep tag vr) (mapBody-agree b (agree-left (namesInBody b) (namesIn c) h)) (mapContent-agree c (agree-right (namesInBody b) (namesIn c) h))
+
+    pub mapWalks-agree : (ws : Walks X) → Agree (namesInWalks ws) → mapWalks f ws ≡ mapWalks g ws
+    mapWalks-agree last h = refl
+    mapWalks-agree (each c ws) h =
+        ap₂ each (mapContent-agree c (agree-left (namesIn c) (namesInWalks ws) h)) (mapWalks-agree ws (agree-right (namesIn c) (namesInWalks ws) h))
+
+-- ---- namesIn
+
+module _ {X Y : Type 0} (f : X → Y) where
+  mutual
+    unfolding mapContent namesIn
+
+    pub namesInBody-map : (b : Body X) → namesInBody (mapBody f b) ≡ map f (namesInBody b)
+    namesInBody-map (shown v) = refl
+    namesInBody-map blank = refl
+    namesInBody-map (uids us) = refl
+    namesInBody-map (walk ws) = namesInWalks-map ws
+
+    pub namesIn-map : (c : Content X) → namesIn (mapContent f c) ≡ map f (namesIn c)
+    namesIn-map end = refl
+    namesIn-map (keep tag vr b c) = ap₂ _++_ (namesInBody-map b) (namesIn-map c) ∙ sym (map-append f (namesInBody b) (namesIn c))
+
+    pub namesInWalks-map : (ws : Walks X) → namesInWalks (mapWalks f ws) ≡ map f (namesInWalks ws)
+    namesInWalks-map last = refl
+    namesInWalks-map (each c ws) = ap₂ _++_ (namesIn-map c) (namesInWalks-map ws) ∙ sym (map-append f (namesIn c) (namesInWalks ws))
+
+  pub length-namesIn-map : (c : Content X) → length (namesIn (mapContent f c)) ≡ length (namesIn c)
+  length-namesIn-map c = ap length (namesIn-map c) ∙ length-map (namesIn c) f
+
+-- ---- a batch
+
+module _ {X : Type 0} where
+  pub mapAll-id : (cs : List (Content X)) → mapAll (λ u. u) cs ≡ cs
+  mapAll-id [] = refl
+  mapAll-id (c ∷ cs) = ap₂ _∷_ (mapContent-id c) (mapAll-id cs)
+
+  pub namesOf-append : (cs ds : List (Content X)) → namesOf (cs ++ ds) ≡ namesOf cs ++ namesOf ds
+  unfolding namesOf
+  namesOf-append [] ds = refl
+  namesOf-append (c ∷ cs) ds = ap (λ (l : List X). namesIn c ++ l) (namesOf-append cs ds) ∙ sym (append-assoc (namesIn c) (namesOf cs) (namesOf ds))
+
+pub mapAll-map : {X Y Z : Type 0} (g : Y → Z) (f : X → Y) (cs : List (Content X)) → mapAll g (mapAll f cs) ≡ mapAll (λ u. g (f u)) cs
+mapAll-map g f [] = refl
+mapAll-map g f (c ∷ cs) = ap₂ _∷_ (mapContent-map g f c) (mapAll-map g f cs)
+
+module _ {X Y : Type 0} where
+  pub mapAll-agree : (f g : X → Y) (cs : List (Content X)) → Agree f g (namesOf cs) → mapAll f cs ≡ mapAll g cs
+  unfolding namesOf
+  mapAll-agree f g [] h = refl
+  mapAll-agree f g (c ∷ cs) h =
+      ap₂ _∷_ (mapContent-agree f g c (agree-left f g (namesIn c) (namesOf cs) h)) (mapAll-agree f g cs (agree-right f g (namesIn c) (namesOf cs) h))
+
+  pub namesOf-map : (f : X → Y) (cs : List (Content X)) → namesOf (mapAll f cs) ≡ map f (namesOf cs)
+  unfolding namesOf
+  namesOf-map f [] = refl
+  namesOf-map f (c ∷ cs) = ap₂ _++_ (namesIn-map f c) (namesOf-map f cs) ∙ sym (map-append f (namesIn c) (namesOf cs))

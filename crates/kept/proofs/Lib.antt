@@ -1,0 +1,3 @@
+pub mod ContentLaws
+pub mod NumberingLaws
+pub mod FaultsLaws
