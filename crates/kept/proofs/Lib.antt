@@ -1,3 +1,10 @@
+pub mod TieLaws
+pub mod FatesLaws
 pub mod ContentLaws
 pub mod NumberingLaws
+pub mod FillersLaws
+pub mod MarksLaws
+pub mod WrittenLaws
+pub mod KeptLaws
+pub mod CountsLaws
 pub mod FaultsLaws
