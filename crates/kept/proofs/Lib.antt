@@ -7,4 +7,5 @@ pub mod MarksLaws
 pub mod WrittenLaws
 pub mod KeptLaws
 pub mod CountsLaws
+pub mod UidsLaws
 pub mod FaultsLaws

@@ -60,8 +60,7 @@ pub struct Case {
 
 impl Case {
     pub fn of_seed(seed: u64) -> Case {
-        let mut random = Random::new(seed);
-        let random = &mut random;
+        let random = &mut Random::new(seed);
         let kind = random.below(20);
         if kind == 0 {
             return Case::from_rubble(random);
@@ -72,12 +71,16 @@ impl Case {
         };
         let tags = tags_to_ask(&set, random);
         let whole = set.bytes.clone();
-        match (kind, set.first_too_deep()) {
-            (1, Some(item)) if random.one_in(2) => {
-                damage::at(&item, &mut set, random);
-                made += ", damaged there";
+        match kind {
+            1 => {
+                if random.one_in(2)
+                    && let Some(item) = set.first_too_deep()
+                {
+                    damage::at(&item, &mut set, random);
+                    made += ", damaged there";
+                }
             }
-            (6.., _) => {
+            6.. => {
                 for _ in 0..random.pick(&[1, 1, 1, 1, 2, 3]) {
                     if let Some(damage) = damage::any(&mut set, random) {
                         made += &format!(", {damage:?}");

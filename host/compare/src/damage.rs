@@ -14,6 +14,8 @@ use crate::random::Random;
 pub enum Damage {
     /// Bytes missing at the end, from any byte on.
     Cut,
+    /// The same, but the stated lengths of all containers that are cut end there too.
+    CutToFit,
     /// Single bits turned.
     Bits,
     /// Some bytes overwritten.
@@ -50,8 +52,9 @@ pub enum Damage {
     Exchanged,
 }
 
-pub const ALL: [Damage; 18] = [
+pub const ALL: [Damage; 19] = [
     Damage::Cut,
+    Damage::CutToFit,
     Damage::Bits,
     Damage::Overwritten,
     Damage::PutIn,
@@ -89,7 +92,7 @@ pub fn at(place: &Place, set: &mut DataSet, random: &mut Random) {
             write(set, place.at, &tag_bytes(tag));
         }
         2 => set.bytes[place.at + random.below(place.header)] ^= 1 << random.below(8),
-        _ => set.bytes.truncate(place.at + random.below(place.header)),
+        _ => cut_to_fit(set, place.at + random.below(place.header)),
     }
 }
 
@@ -102,6 +105,10 @@ impl Damage {
             Damage::Cut => {
                 let at = any_offset(set, random)?;
                 set.bytes.truncate(at);
+            }
+            Damage::CutToFit => {
+                let at = any_offset(set, random)?;
+                cut_to_fit(set, at);
             }
             Damage::Bits => {
                 for _ in 0..1 + random.below(2) {
@@ -269,6 +276,17 @@ fn keep_lengths_true(set: &mut DataSet, mut container: Option<usize>, growth: i6
         }
         container = place.container;
     }
+}
+
+/// Cuts the data set off, and states lengths that just reach there in all containers that reached further.
+fn cut_to_fit(set: &mut DataSet, at: usize) {
+    let is_cut = |place: &Place| place.is_container() && place.at + place.header <= at && at < place.end;
+    let cut: Vec<Place> =
+        set.places.iter().filter(|place| is_cut(place) && !place.undefined).copied().collect();
+    for place in cut {
+        write_length(set, &place, (at - place.at - place.header) as u32);
+    }
+    set.bytes.truncate(at);
 }
 
 /// Puts bytes in the place of others and moves the places behind them.

@@ -116,6 +116,7 @@ fn leads_to(damage: Damage, wanted: &[u64]) {
 #[test]
 fn each_damage_leads_to_the_refusals_it_is_for() {
     leads_to(Damage::Cut, &[0, 6]);
+    leads_to(Damage::CutToFit, &[0, 6, 9]);
     leads_to(Damage::Bits, &[0, 6, 7, 8, 9]);
     leads_to(Damage::Overwritten, &[0, 6, 7, 8, 9]);
     leads_to(Damage::PutIn, &[6, 7, 8, 9]);

@@ -1,0 +1,1 @@
+// No code: this crate states the customer's demands, and proves them.
