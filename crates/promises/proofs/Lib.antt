@@ -1,1 +1,2 @@
 pub mod Demand3Proof
+pub mod Witness
