@@ -19,7 +19,8 @@ use Rattle.ledger.specs.Names.{place, number, learn, learns, numbers, sameName}
 use Rattle.ledger.specs.Slots.{slotOf, slotsIn, flat}
 use Rattle.calendar.specs.Dates.{leap, monthLen, dateOf, real}
 use Rattle.calendar.specs.Spans.{before, place as calendar-place}
-use Rattle.calendar.specs.Values.{twoDigits, dateAt, movedDate, padded, datesEnd, shiftedText, allMove, shiftedValue}
+use Rattle.calendar.specs.Text.{twoDigits, dateAt, movedDate}
+use Rattle.calendar.specs.Values.{padded, datesEnd, shiftedText, allMove, shiftedValue}
 use Rattle.lists.specs.Lists.{entryAt, entriesFrom, entries, listOk}
 use Rattle.lists.specs.Lookup.{findFrom, find, asked}
 use Rattle.lists.specs.Number.{number as lists-number, numberAt}

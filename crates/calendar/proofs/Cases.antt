@@ -2,7 +2,7 @@
 -- Assumes nothing.
 use mathlib.Core.Path.{_≡_, refl}
 use mathlib.Core.Bool.{Bool, true, false}
-use mathlib.Core.Option.{Option, none, some}
+use mathlib.Core.Option.{none, some}
 use mathlib.Core.List.{List, [], _∷_, _++_}
 use Prim.Native.Nat.{ℕ}
 use Prim.Native.Char.{code}
@@ -11,7 +11,8 @@ use lib.IntN.{ℤ, pos, negsuc}
 use Rattle.basis.specs.Pieces.{pieces, after, joined}
 use Rattle.calendar.specs.Spans.{before, place}
 use Rattle.calendar.specs.Dates.{leap, monthLen, dateOf, real}
-use Rattle.calendar.specs.Values.{twoDigits, dateAt, movedDate, padded, datesEnd, shiftedText, allMove, shiftedValue}
+use Rattle.calendar.specs.Text.{twoDigits, dateAt, movedDate}
+use Rattle.calendar.specs.Values.{padded, datesEnd, shiftedText, allMove, shiftedValue}
 
 -- the bytes of a text
 abbrev text : String → List ℕ

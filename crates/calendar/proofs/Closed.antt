@@ -8,9 +8,8 @@
 --     whole-year      the months make the year
 --     month-below, month-in    the month of a day of the year is one of the twelve
 use mathlib.Core.Path.{_≡_, refl, sym, ap, _∙_}
-use mathlib.Core.Bool.{Bool, true, false, _&&_, false≢true}
+use mathlib.Core.Bool.{Bool, true, false, _&&_, and-eq-true-iff}
 use mathlib.Core.Logic.{⊎-elim}
-use mathlib.Core.List.{List, [], _∷_}
 use Prim.Native.Nat.{ℕ, zero, suc, _+_, _-_, _*_, _/_, _%_, _≤_, _<_}
 use native.Mathlib.Nat.{eq-or-lt-of-le, le-of-suc-le-suc, not-suc-le-zero}
 use native.Mathlib.Omega.{arith}
@@ -105,15 +104,9 @@ below p (suc n) = p n && below p n
 below-at : (p : ℕ → Bool) (n k : ℕ) → below p n ≡ true → k < n → p k ≡ true
 unfolding below
 below-at p zero k e l = absurd (not-suc-le-zero l)
-below-at p (suc n) k e l = ⊎-elim (λ s. ap p s ∙ front (p n) (below p n) e) (λ m. below-at p n k (rest (p n) (below p n) e) m) (eq-or-lt-of-le (le-of-suc-le-suc l))
-  where
-    front : (a b : Bool) → a && b ≡ true → a ≡ true
-    front true b e = refl
-    front false b e = e
-
-    rest : (a b : Bool) → a && b ≡ true → b ≡ true
-    rest true b e = e
-    rest false b e = absurd (false≢true e)
+below-at p (suc n) k e l =
+    let s = and-eq-true-iff (p n) (below p n) .0 e in
+    ⊎-elim (λ f. ap p f ∙ s .0) (λ m. below-at p n k (s .1) m) (eq-or-lt-of-le (le-of-suc-le-suc l))
 
 abbrev lens : Bool → ℕ → ℕ
 lens l m = getD (monthLens l) m 0

@@ -6,28 +6,28 @@
 --     date-number, number-date   a day's number and its date are inverse to each other
 --     real-date                  the numbers of real days: those from the first day of the first year to the last of the last
 --     low-date, high-date        and no others
---     later-back, later-none     a number moved on and back; moved by nothing
+--     later-back                 a number moved on, and back again
 --     moved-is, is-moved         what `moved` says, both ways
 --     moved-in, moved-low, moved-high, moved-none    one for each way through `Date::shifted`
 --     moved-back, moved-zero     a shift and the opposite one; a shift by 0
 --     moved-injective            two dates that one shift takes to one date are one date
 --     refusal-moved              where an answer is refusal 12
 use mathlib.Core.Path.{_≡_, refl, sym, ap, ap₂, _∙_, subst}
-use mathlib.Core.Bool.{Bool, true, false, _&&_, false≢true}
+use mathlib.Core.Bool.{Bool, true, false, _&&_, false≢true, and-eq-true-iff}
 use mathlib.Core.Logic.{⊎-elim}
 use mathlib.Core.Option.{Option, none, some, Option·none-ne-some, Option·some-injective}
-use Prim.Native.Nat.{ℕ, zero, suc, _+_, _-_, _*_, _≤_, _<_}
+use Prim.Native.Nat.{ℕ, zero, suc, _+_, _-_, _≤_, _<_, _^_}
 use native.Mathlib.Omega.{arith}
 use lib.Dec.{leb}
 use lib.IntN.{ℤ, pos, negsuc, negℤ}
-use borrow.Author.Tests.{leb-true, le-leb, lt-leb}
+use borrow.Author.Tests.{leb-true, le-leb}
 use Rattle.basis.specs.Choice.{pick, then}
 use Rattle.calendar.specs.Spans.{before, Within, place}
 use Rattle.calendar.specs.Dates.{firstYear, lastYear, yearLen, monthLen, dayNumber, dateOf, real, onlyReal, later, moved, dateIn, refusalIn}
 use Rattle.calendar.specs.declared.Date.{Date}
 use Rattle.calendar.specs.declared.Moved.{Moved}
 use Rattle.calendar.specs.declared.Moved.the-variants.{To, Refused}
-use Rattle.calendar.proofs.SpansLaws.{lt-or-le, before-none, before-one, before-mono, within-below, Found, place-found, place-is, place-first, place-past}
+use Rattle.calendar.proofs.SpansLaws.{lt-or-le, before-none, before-one, before-mono, within-below, place-found, place-is, place-first, place-past}
 use Rattle.calendar.proofs.Closed.{year-high, year-long, month-none, whole-year}
 
 -- ---- real
@@ -41,14 +41,10 @@ pub record Real (x : Date) : Type 0 where
 pub real-is : (x : Date) → real x ≡ true → Real x
 unfolding real
 real-is x e =
-    let c = and (leb firstYear (x .year) && leb (x .year) lastYear && leb 1 (x .day)) _ e in
-    let b = and (leb firstYear (x .year) && leb (x .year) lastYear) _ (c .0) in
-    let a = and (leb firstYear (x .year)) _ (b .0) in
+    let c = and-eq-true-iff (leb firstYear (x .year) && leb (x .year) lastYear && leb 1 (x .day)) _ .0 e in
+    let b = and-eq-true-iff (leb firstYear (x .year) && leb (x .year) lastYear) _ .0 (c .0) in
+    let a = and-eq-true-iff (leb firstYear (x .year)) _ .0 (b .0) in
     record { y₁ = leb-true _ _ (a .0); yₙ = leb-true _ _ (a .1); d₁ = leb-true _ _ (b .1); dₙ = leb-true _ _ (c .1) }
-  where
-    and : (a b : Bool) → a && b ≡ true → (a ≡ true) × (b ≡ true)
-    and true b e = (refl, e)
-    and false b e = absurd (false≢true e)
 
 pub is-real : (x : Date) → Real x → real x ≡ true
 unfolding real
@@ -73,7 +69,7 @@ in-year x r =
     let m = x .month in
     omega (arith, r .dₙ, before-one (monthLen y) m, before-mono (monthLen y) (m + 1) 13 (omega (arith, real-month x r .1)), whole-year y)
 
-pub number-small : (x : Date) → Real x → (before (monthLen (x .year)) (x .month) + x .day ≤ 366) × (dayNumber x < 4000000)
+pub number-small : (x : Date) → Real x → (before (monthLen (x .year)) (x .month) + x .day ≤ 366) × (dayNumber x < 2 ^ 31)
 number-small x r = (
   omega (arith, in-year x r, year-long (x .year)),
   omega (arith, in-year x r, year-long (x .year), year-high (x .year), r .yₙ),

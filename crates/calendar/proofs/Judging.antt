@@ -18,7 +18,8 @@ use Rattle.basis.specs.Bytes.{part}
 use Rattle.basis.specs.Pieces.{pieces}
 use Rattle.basis.proofs.BytesLaws.{part-none, length-part}
 use Rattle.calendar.specs.Dates.{moved}
-use Rattle.calendar.specs.Values.{dateLength, dateAt, rightLength, movedDate, datesEnd, datePieces, shiftedText, allMove, shiftedValue, found, refused, firstPiece}
+use Rattle.calendar.specs.Text.{dateLength, dateAt, rightLength, movedDate, found}
+use Rattle.calendar.specs.Values.{datesEnd, datePieces, shiftedText, allMove, shiftedValue, refused, firstPiece}
 use Rattle.calendar.specs.declared.Date.{Date}
 use Rattle.calendar.proofs.TextLaws.{right-long}
 use Rattle.calendar.proofs.ValuesLaws.{shiftedValue-nil}

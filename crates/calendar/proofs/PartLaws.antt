@@ -2,12 +2,12 @@
 --     part-part    two parts next to each other are one
 --     part-cons    a part that is not empty: its first byte, and the rest
 --     last-part    the last byte of a part
-use mathlib.Core.Path.{_≡_, refl, sym, ap, _∙_}
-use mathlib.Core.List.{List, [], _∷_, _++_}
+use mathlib.Core.Path.{_≡_, refl, ap, _∙_}
+use mathlib.Core.List.{List, _∷_, _++_}
 use Prim.Native.Nat.{ℕ, suc, _+_, _-_, _≤_, _<_}
 use native.Mathlib.Numerals.{add-one}
 use native.Mathlib.Omega.{arith}
-use lib.ListN.{length, take, drop, getD, length-drop}
+use lib.ListN.{length, take, drop, getD}
 use lib.Seq.{take-add, drop-drop, drop-cons, getD-take, getD-drop}
 use Rattle.basis.specs.Bytes.{part}
 use Rattle.basis.proofs.BytesLaws.{length-part}

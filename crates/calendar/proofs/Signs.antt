@@ -1,12 +1,14 @@
--- A signed number of 32 bits, by its sign.
--- Assumes nothing.
-use mathlib.Core.Path.{_≡_, refl, sym, ap, subst, _∙_}
+-- A signed number of 32 bits, by its sign. No contract cites this file. Assumes nothing.
+--     is-neg, is-pos    what a test against 0 says of it
+--     minus             how the code takes the sign away
+--     there, back       a number that is put into 32 bits is read again as it was
+use mathlib.Core.Path.{_≡_, refl, subst}
 use mathlib.Core.Bool.{Bool, true, false}
-use Prim.Native.Nat.{ℕ, suc, _+_, _-_, _<_, _^_}
+use Prim.Native.Nat.{ℕ, suc, _<_, _^_}
 use native.Mathlib.Nat.{sub-zero, suc-sub-suc, not-suc-le-zero}
 use native.Mathlib.Omega.{arith}
 use borrow.Author.Tests.{le-ltb}
-use lib.IntN.{ℤ, pos, negsuc, _-ℤ_, natAbs}
+use lib.IntN.{ℤ, pos, negsuc, _-ℤ_}
 use lib.Signed.{ltZ}
 use mir.Syntax.{w32}
 use mir.Val.{SFits, toZ, ofZ}
@@ -15,7 +17,6 @@ use mir.Facts.{toZ-ofZ}
 not-both : _≡_ {A = Bool} true false → ⊥
 not-both e = let z : _≡_ {A = ℕ} 0 1 = cc in omega arith
 
--- what a test against 0 says: the number is the one or the other
 pub is-neg : (z : ℤ) → SFits w32 z → ltZ (toZ w32 (ofZ w32 z)) (pos 0) ≡ true → (m : ℕ) × (z ≡ negsuc m) × (m < 2147483648)
 is-neg z f t = go z (f .sfits) (subst (λ (y : ℤ). ltZ y (pos 0) ≡ true) (toZ-ofZ f) t)
   where

@@ -1,30 +1,31 @@
--- Laws of dates as text, the first part of `specs/Values.antt`. No contract cites this file. Assumes nothing.
+-- Laws of `specs/Text.antt`. No contract cites this file. Assumes nothing.
 --     two-text, text-two      two digits and the number that they spell, both ways
 --     date-text, text-date    eight digits and the date that they spell, both ways
---     text-free               a date's text has digits alone
+--     NoDigit c, text-free    the byte c is no digit; it is in no date's text
+--     right-long              a piece of the right length has room for a date
 --     moved-date-is           what `movedDate` says; `is-moved-date` the other way
+--     length-shiftedPiece     a shifted piece is as long as it was
+--     shiftedPiece-free       it has no byte that it had not, but digits; `shiftedPiece-tight`: in a DA value it has digits alone
 --     shiftedPiece-back       a shift and the opposite one give the piece again
 --     shiftedPiece-zero       a shift by 0 leaves it as it is
---     length-shiftedPiece     a shifted piece is as long as it was
---     shiftedPiece-free       and has no byte but digits that it had not
-use mathlib.Core.Path.{_≡_, refl, sym, ap, ap₂, _∙_, subst}
+use mathlib.Core.Path.{_≡_, refl, sym, ap, _∙_, subst}
 use mathlib.Core.Bool.{Bool, true, false, _&&_, false≢true}
 use mathlib.Core.Option.{Option, none, some, Option·none-ne-some, Option·some-injective}
-use mathlib.Core.List.{List, [], _∷_, _++_}
+use mathlib.Core.List.{List, _∷_, _++_}
 use Prim.Native.Nat.{ℕ, _+_, _-_, _*_, _/_, _%_, _≤_, _<_}
 use native.Mathlib.Omega.{arith}
-use lib.Dec.{leb, eqb}
+use lib.Dec.{leb}
 use lib.IntN.{ℤ, pos, negℤ}
-use lib.ListN.{length, take, drop, getD, length-append, length-drop, drop-of-length-le}
+use lib.ListN.{length, drop, getD, length-append, length-drop, drop-of-length-le}
 use lib.Seq.{drop-cons}
 use borrow.Author.Tests.{le-leb, leb-true, eqb-true}
 use Rattle.basis.specs.Choice.{pick, fork, then}
 use Rattle.basis.proofs.PiecesLaws.{Free, free-append, free-drop}
-use Rattle.calendar.specs.Dates.{firstYear, lastYear, monthLen, moved}
-use Rattle.calendar.specs.Values.{digit0, digit9, dateLength, isDigit, twoDigits, twoAt, dateAt, twoText, dateText, rightLength, movedDate, withDate, shiftedPiece, found}
+use Rattle.calendar.specs.Dates.{moved}
+use Rattle.calendar.specs.Text.{digit0, digit9, dateLength, twoDigits, twoAt, dateAt, twoText, dateText, rightLength, movedDate, withDate, shiftedPiece, found}
 use Rattle.calendar.specs.declared.Date.{Date}
 use Rattle.calendar.proofs.Closed.{month-short}
-use Rattle.calendar.proofs.DatesLaws.{Real, real-month, IsMoved, moved-is, moved-back, moved-zero}
+use Rattle.calendar.proofs.DatesLaws.{Real, real-month, moved-is, moved-back, moved-zero}
 
 -- ---- twoDigits
 

@@ -1,31 +1,33 @@
--- Laws of whole values, the second part of `specs/Values.antt`. No contract cites this file. Assumes nothing.
+-- Laws of `specs/Values.antt`. No contract cites this file. Assumes nothing.
 --     datesEnd-le              the dates end in the value
 --     length-shiftedText       the text is as long as the value, whatever the value is
 --     datesEnd-shifted         and its dates end at the same place, where all of them can be moved
 --     shiftedValue-nil         an empty value stays empty
 --     shiftedValue-is          what `shiftedValue` says; `is-shiftedValue` the other way
 --     shiftedValue-text        a value that is not refused is written as `shiftedText`
+--     shiftedValue-refused, shiftedValue-good    what the answer of `date_fault` says
 --     shiftedValue-length      its text is as long as it
 --     shiftedValue-back        the text, shifted back, is the value again
 --     shiftedValue-inj         two values that are shifted to one text are one value
 --     shiftedValue-zero        a value that some shift takes is left as it is by a shift of 0
 --     shiftedValue-again       so is the text of a shifted value
 use mathlib.Core.Path.{_≡_, refl, sym, ap, ap₂, _∙_, subst}
-use mathlib.Core.Bool.{Bool, true, false, not, _&&_, _||_, false≢true}
+use mathlib.Core.Bool.{Bool, true, false, _&&_, false≢true, and-eq-true-iff, and-false, or-true}
 use mathlib.Core.Logic.{_⊎_, inl, inr, ⊎-elim}
 use mathlib.Core.Option.{Option, none, some, Option·none-ne-some, Option·some-injective}
 use mathlib.Core.List.{List, [], _∷_, _++_, map, append-nil}
-use Prim.Native.Nat.{ℕ, suc, _+_, _-_, _%_, _≤_, _<_}
+use Prim.Native.Nat.{ℕ, suc, _-_, _%_, _≤_, _<_}
 use native.Mathlib.Omega.{arith}
 use lib.Dec.{eqb}
 use lib.IntN.{ℤ, pos, negℤ}
 use lib.ListN.{length, take, drop, getD, length-append, take-append-drop}
 use lib.Seq.{length-take-le, take-at, drop-at, getD-at, drop-length, drop-cons}
-use borrow.Author.Tests.{eqb-true, eqb-false, eq-eqb, ne-eqb}
+use borrow.Author.Tests.{eqb-true, eq-eqb, ne-eqb}
 use Rattle.basis.specs.Choice.{pick, fork}
 use Rattle.basis.specs.Pieces.{backslash, pieces, after, joined}
 use Rattle.basis.proofs.PiecesLaws.{Free, FreeAll, free-append, free-getD, pieces-some, pieces-free, joined-pieces, pieces-joined}
-use Rattle.calendar.specs.Values.{digit0, space, movedDate, shiftedPiece, padded, datesEnd, datePieces, shiftedText, found, allMove, isEmpty, shiftedValue}
+use Rattle.calendar.specs.Text.{movedDate, shiftedPiece, found}
+use Rattle.calendar.specs.Values.{space, padded, datesEnd, datePieces, shiftedText, allMove, isEmpty, shiftedValue, refused}
 use Rattle.calendar.proofs.TextLaws.{Again, NoDigit, length-shiftedPiece, shiftedPiece-free, shiftedPiece-tight, shiftedPiece-back, shiftedPiece-zero}
 
 -- ---- datesEnd
@@ -60,10 +62,6 @@ no-backslash n l e = omega arith
 no-space : NoDigit space
 no-space n l e = omega arith
 
-and : (a b : Bool) → a && b ≡ true → (a ≡ true) × (b ≡ true)
-and true b e = (refl, e)
-and false b e = absurd (false≢true e)
-
 record AllAgain (da : Bool) (days : ℤ) (ws us : List (List ℕ)) : Type 0 where
   pub moves : allMove da days ws ≡ true
   pub gives : map (shiftedPiece da days) ws ≡ us
@@ -89,14 +87,14 @@ module _ (da : Bool) (days : ℤ) where
   unfolding allMove
   all-back [] e = none-again da (negℤ days)
   all-back (u ∷ us) e =
-      let s = and (found (movedDate da days u)) (allMove da days us) e in
+      let s = and-eq-true-iff (found (movedDate da days u)) (allMove da days us) .0 e in
       all-again da (negℤ days) (shiftedPiece da days u) u (map (shiftedPiece da days) us) us (shiftedPiece-back da days u (s .0)) (all-back us (s .1))
 
   all-zero : (us : List (List ℕ)) → allMove da days us ≡ true → AllAgain da (pos 0) us us
   unfolding allMove
   all-zero [] e = none-again da (pos 0)
   all-zero (u ∷ us) e =
-      let s = and (found (movedDate da days u)) (allMove da days us) e in
+      let s = and-eq-true-iff (found (movedDate da days u)) (allMove da days us) .0 e in
       all-again da (pos 0) u u us us (shiftedPiece-zero da days u (s .0)) (all-zero us (s .1))
 
 -- a DA value of dates alone has no space
@@ -105,14 +103,14 @@ module _ (days : ℤ) where
   unfolding allMove after
   after-free [] e = tt
   after-free (u ∷ us) e =
-      let s = and (found (movedDate true days u)) (allMove true days us) e in
+      let s = and-eq-true-iff (found (movedDate true days u)) (allMove true days us) .0 e in
       (λ b. omega arith, free-append space (shiftedPiece true days u) _ (shiftedPiece-tight space days u no-space (s .0)) (after-free us (s .1)))
 
   joined-free : (us : List (List ℕ)) → allMove true days us ≡ true → Free space (joined (map (shiftedPiece true days) us))
   unfolding allMove joined
   joined-free [] e = tt
   joined-free (u ∷ us) e =
-      let s = and (found (movedDate true days u)) (allMove true days us) e in
+      let s = and-eq-true-iff (found (movedDate true days u)) (allMove true days us) .0 e in
       free-append space (shiftedPiece true days u) _ (shiftedPiece-tight space days u no-space (s .0)) (after-free us (s .1))
 
 -- ---- shiftedText
@@ -148,7 +146,7 @@ padded-is : (v : List ℕ) → padded true v ≡ true → Padded v
 unfolding padded
 padded-is [] e = absurd (false≢true e)
 padded-is (x ∷ v) e =
-    let s = and (eqb (length (x ∷ v) % 2) 0) _ e in
+    let s = and-eq-true-iff (eqb (length (x ∷ v) % 2) 0) _ .0 e in
     record { even = s .0; last = eqb-true _ space (s .1); full = omega arith }
 
 module _ (days : ℤ) (v : List ℕ) (h : allMove true days (datePieces true v) ≡ true) where
@@ -174,11 +172,7 @@ module _ (days : ℤ) (v : List ℕ) (h : allMove true days (datePieces true v) 
       let l : getD (shiftedText true days v) (length (shiftedText true days v) - 1) 0 ≡ space → ⊥
       = free-getD space 0 (shiftedText true days v) (length (shiftedText true days v) - 1) (λ z. omega arith)
       (subst (Free space) (sym t) (joined-free days (datePieces true v) h)) in
-      ap (λ b. eqb (length (shiftedText true days v) % 2) 0 && b) (ne-eqb _ space l) ∙ none (eqb (length (shiftedText true days v) % 2) 0)
-    where
-      none : (b : Bool) → b && false ≡ false
-      none true = refl
-      none false = refl
+      ap (λ b. eqb (length (shiftedText true days v) % 2) 0 && b) (ne-eqb _ space l) ∙ and-false (eqb (length (shiftedText true days v) % 2) 0)
 
 padded-shifted : (da : Bool) (days : ℤ) (v : List ℕ) → allMove da days (datePieces da v) ≡ true → padded da (shiftedText da days v) ≡ padded da v
 unfolding padded
@@ -219,19 +213,30 @@ shiftedValue-is da days (y ∷ v) x e = go (allMove da days (datePieces da (y �
 
 pub is-shiftedValue : (da : Bool) (days : ℤ) (v : List ℕ) → allMove da days (datePieces da v) ≡ true → shiftedValue da days v ≡ some (shiftedText da days v)
 unfolding shiftedValue
-is-shiftedValue da days v h = rw (h, or (isEmpty v)) refl
-  where
-    or : (b : Bool) → b || true ≡ true
-    or true = refl
-    or false = refl
+is-shiftedValue da days v h = rw (h, or-true (isEmpty v)) refl
 
 pub shiftedValue-text : (da : Bool) (days : ℤ) (v x : List ℕ) → shiftedValue da days v ≡ some x → shiftedText da days v ≡ x
 shiftedValue-text da days v x e = sym (shiftedValue-is da days v x e .text)
 
+-- by the answer of `date_fault`
+pub shiftedValue-refused : (da : Bool) (days : ℤ) (v : List ℕ) → refused (shiftedValue da days v) ≡ true → shiftedValue da days v ≡ none
+shiftedValue-refused da days v e = go (shiftedValue da days v) e
+  where
+    go : (o : Option (List ℕ)) → refused o ≡ true → o ≡ none
+    go none e = refl
+    go (some x) e = absurd (false≢true e)
+
+pub shiftedValue-good : (da : Bool) (days : ℤ) (v : List ℕ) → refused (shiftedValue da days v) ≡ false → shiftedValue da days v ≡ some (shiftedText da days v)
+shiftedValue-good da days v e = go (shiftedValue da days v) refl e
+  where
+    go : (o : Option (List ℕ)) → shiftedValue da days v ≡ o → refused o ≡ false → shiftedValue da days v ≡ some (shiftedText da days v)
+    go none h e = absurd (false≢true (sym e))
+    go (some x) h e = h ∙ ap some (sym (shiftedValue-text da days v x h))
+
 pub shiftedValue-length : (da : Bool) (days : ℤ) (v x : List ℕ) → shiftedValue da days v ≡ some x → length x ≡ length v
 shiftedValue-length da days v x e = ap length (sym (shiftedValue-text da days v x e)) ∙ length-shiftedText da days v
 
--- a value whose pieces another shift takes to the pieces of w
+-- a value w whose pieces a shift takes to the pieces us
 text-again : (da : Bool) (days : ℤ) (w : List ℕ) (us : List (List ℕ)) (t : List ℕ) → AllAgain da days (datePieces da w) us → drop (datesEnd da w) w ≡ t
     → shiftedValue da days w ≡ some (joined us ++ t)
 unfolding shiftedText

@@ -5,7 +5,7 @@
 --     Cut, cut-of              the pieces from a place on, by the end of the first
 --     dates-upto, dates-take, dates-drop    the dates and the pad of a value, by the place where the dates end
 use mathlib.Core.Path.{_≡_, refl, sym, ap, ap₂, _∙_}
-use mathlib.Core.Bool.{Bool, true, false, _&&_}
+use mathlib.Core.Bool.{Bool, true, false, and-false}
 use mathlib.Core.Logic.{⊎-elim}
 use mathlib.Core.List.{List, [], _∷_, _++_, nil≢cons}
 use Prim.Native.Nat.{ℕ, suc, _+_, _-_, _%_, _≤_, _<_}
@@ -18,7 +18,8 @@ use Rattle.basis.specs.Choice.{pick, fork}
 use Rattle.basis.specs.Bytes.{part}
 use Rattle.basis.specs.Pieces.{backslash, onFirst, pieces}
 use Rattle.basis.proofs.BytesLaws.{length-part}
-use Rattle.calendar.specs.Values.{space, dateLength, dateAt, padded, datesEnd, firstPiece}
+use Rattle.calendar.specs.Text.{dateLength, dateAt}
+use Rattle.calendar.specs.Values.{space, padded, datesEnd, firstPiece}
 use Rattle.calendar.proofs.PartLaws.{part-part, part-cons, last-part}
 use Rattle.calendar.proofs.SpansLaws.{lt-or-le}
 use Rattle.calendar.proofs.ValuesLaws.{datesEnd-le}
@@ -59,11 +60,7 @@ module _ (da : Bool) (s : List ℕ) (from to : ℕ) (in-s : to ≤ length s) whe
   pub ends-text : da ≡ true → from < to → (getD s (to - 1) 0 ≡ space → ⊥) → to ≡ from + datesEnd da (part s from to)
   unfolding padded
   ends-text d l f =
-      ends-whole (omega arith) (rw (d, ne-eqb _ space (λ e. f (sym (last-part s from to l in-s) ∙ e))) (off (eqb (length (part s from to) % 2) 0)))
-    where
-      off : (b : Bool) → b && false ≡ false
-      off true = refl
-      off false = refl
+      ends-whole (omega arith) (rw (d, ne-eqb _ space (λ e. f (sym (last-part s from to l in-s) ∙ e))) (and-false (eqb (length (part s from to) % 2) 0)))
 
   pub ends-odd : from ≤ to → da ≡ true → ((to - from) % 2 ≡ 0 → ⊥) → to ≡ from + datesEnd da (part s from to)
   unfolding padded

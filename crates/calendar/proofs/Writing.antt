@@ -20,7 +20,8 @@ use Rattle.basis.proofs.BytesLaws.{length-part}
 use Rattle.basis.proofs.PiecesLaws.{pieces-some, joined-more, joined-one}
 use Rattle.buffer.specs.Buffer.{laid}
 use Rattle.buffer.proofs.Laws.{laid-none, laid-more, length-laid}
-use Rattle.calendar.specs.Values.{dateLength, dateText, movedDate, withDate, shiftedPiece, datesEnd, shiftedText, firstPiece}
+use Rattle.calendar.specs.Text.{dateLength, dateText, movedDate, withDate, shiftedPiece}
+use Rattle.calendar.specs.Values.{datesEnd, shiftedText, firstPiece}
 use Rattle.calendar.specs.declared.Date.{Date}
 use Rattle.calendar.proofs.PartLaws.{part-part}
 use Rattle.calendar.proofs.TextLaws.{right-long, moved-date-is, length-shiftedPiece}

@@ -24,14 +24,14 @@ use Rattle.calendar.specs.declared.Date.{Date}
 use Rattle.calendar.specs.declared.Moved.{Moved}
 use Rattle.calendar.specs.declared.Moved.the-variants.{To, Refused}
 
--- Document 01, 2nd paragraph, 2nd sentence: the years are 0001 to 9999
+-- Document 01, dates, 2nd sentence: the years 0001 to 9999
 abbrev pub firstYear : ℕ
 firstYear = 1
 
 abbrev pub lastYear : ℕ
 lastYear = 9999
 
--- The Gregorian rule: each fourth year, but of the full hundreds only each fourth
+-- The same sentence, the Gregorian calendar: each fourth year, but of the full hundreds only each fourth
 unfoldable pub leap : ℕ → Bool
 leap y = pick (eqb (y % 400) 0) true (pick (eqb (y % 100) 0) false (eqb (y % 4) 0))
 
@@ -65,7 +65,7 @@ abbrev pub later : ℕ → ℤ → ℕ
 later n (pos k) = n + k
 later n (negsuc k) = n - (k + 1)
 
--- Document 01, 2nd paragraph, 2nd sentence, and No. 12: refused are a date that is no real day and one that leaves the years
+-- Document 01, dates, 2nd sentence, and No. 12: refused are a date that is no real day and one that leaves the years
 abbrev pub moved : Date → ℤ → Option Date
 moved d z = then (onlyReal d) (λ e. onlyReal (dateOf (later (dayNumber e) z)))
 

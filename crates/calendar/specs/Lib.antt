@@ -1,3 +1,4 @@
 pub mod Spans
 pub mod Dates
+pub mod Text
 pub mod Values

@@ -7,8 +7,9 @@ ghost use Rattle.basis.specs.Choice.{then};
 ghost use Rattle.basis.specs.Pieces.{pieces};
 ghost use Rattle.buffer.specs.Buffer.{laid};
 ghost use Rattle.calendar.specs.Spans.{before, Within};
-ghost use Rattle.calendar.specs.Dates.{firstYear, lastYear, leap, yearLen, monthLen, dayNumber, dateOf, real, later, moved, dateIn};
-ghost use Rattle.calendar.specs.Values.{dateLength, twoDigits, dateAt, dateText, rightLength, movedDate, shiftedPiece, datesEnd, shiftedText, shiftedValue, refused, numberIn, firstPiece};
+ghost use Rattle.calendar.specs.Dates.{firstYear, lastYear, leap, yearLen, monthLen, dateOf, real, later, moved, dateIn};
+ghost use Rattle.calendar.specs.Text.{dateLength, twoDigits, dateAt, dateText, rightLength, movedDate, shiftedPiece, numberIn};
+ghost use Rattle.calendar.specs.Values.{datesEnd, shiftedText, shiftedValue, refused, firstPiece};
 
 // The years that a date may have.
 const FIRST_YEAR: u32 = 1;
@@ -31,11 +32,12 @@ pub enum Moved {
 }
 
 // The number that two characters spell, where they are digits.
-pub enum Two {
+enum Two {
     Number(u32),
     NoDigits,
 }
 
+// Each fourth year, but of the full hundreds only each fourth.
 fn is_leap(y: u32) -> bool
     ensures { λ r. ⌜ r ≡ leap y ⌝ }
 {
@@ -89,6 +91,7 @@ fn before_month(y: u32, m: u32) -> u32
     (153 * m - 162) / 5
 }
 
+// Whether d is a day of the calendar, in the years.
 fn is_real(d: Date) -> bool
     ensures { λ r. ⌜ r ≡ real d ⌝ }
 {
@@ -128,6 +131,7 @@ fn month_of(y: u32, n: u32) -> u32
     m
 }
 
+// The date of the day n, which is in the years.
 fn date_of(n: u32) -> Date
     requires { ⌜ (before yearLen firstYear < n) × (n ≤ before yearLen (lastYear + 1)) ⌝ }
     ensures { λ r. ⌜ r ≡ dateOf n ⌝ }
@@ -175,6 +179,7 @@ impl Date {
     }
 }
 
+// The number that the characters x and y spell.
 fn two_digits(x: u8, y: u8) -> Two
     ensures { λ r. ⌜ numberIn r ≡ twoDigits x y ⌝ }
 {
@@ -218,6 +223,7 @@ fn moved_at(s: &[u8], a: usize, days: i32) -> Moved
     date.shifted(days)
 }
 
+// A date is the whole of a piece in a DA value, and its front in a DT value.
 fn right_length(da: bool, n: usize) -> bool
     ensures { λ r. ⌜ r ≡ rightLength da n ⌝ }
 {
@@ -253,7 +259,7 @@ fn piece_end(s: &[u8], a: usize, stop: usize) -> usize
     b
 }
 
-// Where the dates of a value end.
+// Where the dates of a value end: before the space that pads a DA value, or at its end.
 fn dates_end(da: bool, s: &[u8], from: usize, to: usize) -> usize
     requires { ⌜ (from ≤ to) × (to ≤ length (now s)) ⌝ }
     ensures { λ r. ⌜ r ≡ from + datesEnd da (part (now (s .entry)) from to) ⌝ }
@@ -317,7 +323,8 @@ fn put_date(d: Date, out: &mut [u8], pos: usize)
     buffer::copy_block(&text, 0, DATE_LENGTH, out, pos);
 }
 
-// The piece from `a` up to `b` with its date moved, at `pos`; the place past it.
+// The piece from `a` up to `b` with its date moved, at `pos`; the place past it. A date that can't be moved stays: a value that has one is
+// refused with 12 before anything is written.
 fn put_piece(da: bool, s: &[u8], a: usize, b: usize, days: i32, out: &mut [u8], pos: usize) -> usize
     requires { ⌜ (a ≤ b) × (b ≤ length (now s)) × (pos + (b - a) < 2 ^ 64) ⌝ }
     ensures { λ r. ⌜ (r ≡ pos + (b - a)) × (now (out .exit) ≡ laid (now (out .entry)) pos (shiftedPiece da days (part (now (s .entry)) a b))) ⌝ }
@@ -332,7 +339,7 @@ fn put_piece(da: bool, s: &[u8], a: usize, b: usize, days: i32, out: &mut [u8], 
     }
 }
 
-// The DA or DT value from `from` up to `to` with its dates moved, at `pos`; the place past it.
+// The DA or DT value from `from` up to `to` with its dates moved, at `pos`, as far as there is room; the place past all of it.
 pub fn put_shifted(
     da: bool,
     s: &[u8],

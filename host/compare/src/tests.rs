@@ -10,7 +10,7 @@ use crate::generate::{DataSet, Kind};
 use crate::pieces::*;
 use crate::random::Random;
 use crate::shrink::shrunk;
-use crate::view::{Answer, expected};
+use crate::view::{self, Answer, Comparison, Counts, expected};
 
 const SEEDS: u64 = 1_000;
 
@@ -199,4 +199,14 @@ fn shrinking_leaves_what_is_wrong() {
     let small =
         shrunk(&Lent::among(&data, &[], 3), |lent| lent.data().contains(&7) && lent.data().contains(&200));
     assert_eq!(small.data(), [7, 200]);
+}
+
+#[test]
+fn a_run_in_which_an_answer_never_comes_up_is_told() {
+    assert!(Counts::default().lacks_something());
+    let mut comparison = Comparison::new(view::proved);
+    comparison.edges();
+    assert!(comparison.counts.lacks_something(), "5 comes up with the longest alone");
+    comparison.longest();
+    assert!(!comparison.counts.lacks_something());
 }

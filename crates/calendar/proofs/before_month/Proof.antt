@@ -1,3 +1,4 @@
+-- `calendar::before_month` meets its contract: the formula of `Closed`. Assumes nothing.
 use mathlib.Core.Path.{refl, sym, _∙_}
 use borrow.Author.Tests.{lt-ltb, le-ltb}
 use Rattle.calendar.proofs.Closed.{before-month}
@@ -5,39 +6,28 @@ use native.Mathlib.Omega.{arith}
 use borrow.Author.Needs.{needs}
 use Rattle.calendar.proofs.before_month.Statement.{statement}
 use Rattle.calendar.proofs.before_month.Tie as tie
-use Rattle.calendar.proofs.before_month.Reads as reads
-use Rattle.calendar.proofs.before_month.Lts as lts
-use Rattle.calendar.proofs.is_leap.Reads as is-leap-reads
 
--- src/lib.rt:73:22
 sub-result : tie.Need-sub-result
 sub-result c = search needs
 
--- src/lib.rt:73:16
 mul-result : tie.Need-mul-result
 mul-result c = search needs
 
--- src/lib.rt:73:9
 returns : tie.Need-returns
 returns c = rw (before-month (c .before .args .y) (c .before .args .m) (c .before .pre .1), lt-ltb _ _ (c .if1 .taken)) refl
 
--- src/lib.rt:75:8
 is-leap-requires : tie.Need-is-leap-requires
 is-leap-requires c κs = search needs
 
--- src/lib.rt:76:17
 mul-result-2 : tie.Need-mul-result-2
 mul-result-2 c = search needs
 
--- src/lib.rt:76:17
 sub-result-2 : tie.Need-sub-result-2
 sub-result-2 c = search needs
 
--- src/lib.rt:76:16
 add-result : tie.Need-add-result
 add-result c = search needs
 
--- src/lib.rt:76:9
 returns-2 : tie.Need-returns-2
 returns-2 c =
     let at-if1 = c .before .before in
@@ -49,15 +39,12 @@ returns-2 c =
           (c .before .is-leap .ensures) ∙ c .if2 .taken,
     ) refl
 
--- src/lib.rt:78:6
 mul-result-3 : tie.Need-mul-result-3
 mul-result-3 c = search needs
 
--- src/lib.rt:78:6
 sub-result-3 : tie.Need-sub-result-3
 sub-result-3 c = search needs
 
--- src/lib.rt:68:1
 returns-3 : tie.Need-returns-3
 returns-3 c =
     let at-if1 = c .before .before in

@@ -1,3 +1,5 @@
+-- `calendar::date_fault` meets its contract. The loop's invariant is `Judging`: the value is refused exactly where one of the
+-- pieces left is. The measure: what is left of the value. Assumes nothing.
 use mathlib.Core.Path.{ap}
 use Prim.Native.Nat.{_-_}
 use mir.Syntax.{w32}
@@ -9,11 +11,6 @@ use borrow.Author.Needs.{needs}
 use native.Mathlib.Omega.{arith}
 use Rattle.calendar.proofs.date_fault.Statement.{statement}
 use Rattle.calendar.proofs.date_fault.Tie as tie
-use Rattle.calendar.proofs.date_fault.Reads as reads
-use Rattle.calendar.proofs.date_fault.Lts as lts
-use Rattle.calendar.proofs.dates_end.Reads as dates-end-reads
-use Rattle.calendar.proofs.moved_date.Reads as moved-date-reads
-use Rattle.calendar.proofs.piece_end.Reads as piece-end-reads
 
 abbrev Inv-loop : tie.InvT-loop
 Inv-loop da s from to days stop a₀ a = Judging da s from to (toZ w32 days) stop a
@@ -21,38 +18,31 @@ Inv-loop da s from to days stop a₀ a = Judging da s from to (toZ w32 days) sto
 abbrev μ-loop : tie.MeasureT-loop
 μ-loop da s from to days stop a₀ a = stop - a
 
--- src/lib.rt:270:9
 returns : tie.Need-returns Inv-loop μ-loop
 returns c =
     let at-start = c .before .before in
     let a = at-start .args in judge-nothing (a .da) (a .s .now) (a .from) (a .to) (a .days) (c .if1 .taken)
 
--- src/lib.rt:272:9
 dates-end-requires : tie.Need-dates-end-requires Inv-loop μ-loop
 dates-end-requires c κs = search needs
 
--- src/lib.rt:274:5
 loop-holds : tie.Need-loop-holds Inv-loop μ-loop
 loop-holds c =
     let at-start = c .before .before .before in
     judge-start _ _ _ _ _ (at-start .pre .1) (omega (arith, at-start .pre .0, c .before .if1 .left)) (c .dates-end .ensures)
 
--- src/lib.rt:275:13
 piece-end-requires : tie.Need-piece-end-requires Inv-loop μ-loop
 piece-end-requires c κs = let g = c .loop .inv in omega (arith, g .hi, g .upto, g .in-s)
 
--- src/lib.rt:276:13
 moved-date-requires : tie.Need-moved-date-requires Inv-loop μ-loop
 moved-date-requires c κs =
     let g = c .before .loop .inv in
     let u = judge-cut g (c .piece-end .ensures) in
     omega (arith, u .from, u .upto, g .upto, g .in-s)
 
--- src/lib.rt:278:31
 enum-told : tie.Need-enum-told Inv-loop μ-loop
 enum-told c = search needs
 
--- src/lib.rt:278:31
 returns-2 : tie.Need-returns-2 Inv-loop μ-loop
 returns-2 c =
     let at-moved-date = c .before .before in
@@ -62,11 +52,9 @@ returns-2 c =
     judge-bad (at-loop .loop .inv) (at-piece-end .piece-end .ensures) (at-moved-date .moved-date .ensures)
     (ap dateIn (c .enum-told .given .1)) (toZ-ofZ (at-start .fits .days))
 
--- src/lib.rt:280:20
 enum-told-2 : tie.Need-enum-told-2 Inv-loop μ-loop
 enum-told-2 c = search needs
 
--- src/lib.rt:281:21
 returns-3 : tie.Need-returns-3 Inv-loop μ-loop
 returns-3 c =
     let at-moved-date = c .before .before .before in
@@ -76,7 +64,6 @@ returns-3 c =
     judge-last (at-loop .loop .inv) (at-piece-end .piece-end .ensures) (at-moved-date .moved-date .ensures)
     (ap dateIn (c .before .enum-told2 .given .1)) (c .if2 .taken) (toZ-ofZ (at-start .fits .days))
 
--- src/lib.rt:283:21
 add-a : tie.Need-add-a Inv-loop μ-loop
 add-a c =
     let at-piece-end = c .before .before .before .before in
@@ -85,7 +72,6 @@ add-a c =
     let u = judge-cut g (at-piece-end .piece-end .ensures) in
     omega (arith, u .upto, g .upto, g .in-s, c .if2 .left)
 
--- src/lib.rt:274:5
 loop-less : tie.Need-loop-less Inv-loop μ-loop
 loop-less c =
     let at-piece-end = c .before .before .before .before in
@@ -93,7 +79,6 @@ loop-less c =
     let u = judge-cut (at-loop .loop .inv) (at-piece-end .piece-end .ensures) in
     omega (arith, u .from, u .upto, c .if2 .left)
 
--- src/lib.rt:274:5
 loop-again : tie.Need-loop-again Inv-loop μ-loop
 loop-again c =
     let at-moved-date = c .before .before .before in

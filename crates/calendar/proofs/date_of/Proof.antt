@@ -1,3 +1,4 @@
+-- `calendar::date_of` meets its contract: the year that has the day, and the month that has what is left of it. Assumes nothing.
 use mathlib.Core.Path.{ap}
 use Prim.Native.Nat.{_+_, _-_}
 use Rattle.calendar.specs.Dates.{lastYear, yearLen}
@@ -8,34 +9,23 @@ use native.Mathlib.Omega.{arith}
 use borrow.Author.Needs.{needs}
 use Rattle.calendar.proofs.date_of.Statement.{statement}
 use Rattle.calendar.proofs.date_of.Tie as tie
-use Rattle.calendar.proofs.date_of.Reads as reads
-use Rattle.calendar.proofs.date_of.Lts as lts
-use Rattle.calendar.proofs.before_month.Reads as before-month-reads
-use Rattle.calendar.proofs.before_year.Reads as before-year-reads
-use Rattle.calendar.proofs.month_of.Reads as month-of-reads
-use Rattle.calendar.proofs.year_of.Reads as year-of-reads
 
--- src/lib.rt:124:9
 year-of-requires : tie.Need-year-of-requires
 year-of-requires c κs = search needs
 
--- src/lib.rt:125:17
 before-year-requires : tie.Need-before-year-requires
 before-year-requires c κs =
     let y = c .year-of .result in
     omega (arith, within-below yearLen (c .before .args .n) y (lastYear + 1) (c .year-of .ensures .0) (c .before .pre .1))
 
--- src/lib.rt:125:13
 sub-i : tie.Need-sub-i
 sub-i c = search needs
 
--- src/lib.rt:126:9
 month-of-requires : tie.Need-month-of-requires
 month-of-requires c κs =
     let w = c .before .year-of .ensures in
     omega (arith, w .0, w .1, c .before-year .ensures, before-one yearLen (c .before .year-of .result))
 
--- src/lib.rt:127:40
 before-month-requires : tie.Need-before-month-requires
 before-month-requires c κs =
     let at-year-of = c .before .before in
@@ -50,11 +40,9 @@ before-month-requires c κs =
           (c .month-of .ensures),
     )
 
--- src/lib.rt:127:36
 sub-t6 : tie.Need-sub-t6
 sub-t6 c = search needs
 
--- src/lib.rt:120:1
 returns : tie.Need-returns
 returns c =
     let at-before-year = c .before .before in

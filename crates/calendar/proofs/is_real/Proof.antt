@@ -1,27 +1,21 @@
+-- `calendar::is_real` meets its contract: the tests of `real`, in its order. Assumes nothing.
 use mathlib.Core.Path.{refl}
 use borrow.Author.Tests.{le-leb, lt-leb}
 use Rattle.calendar.specs.Dates.{real}
-use native.Mathlib.Omega.{arith}
 use borrow.Author.Needs.{needs}
 use Rattle.calendar.proofs.is_real.Statement.{statement}
 use Rattle.calendar.proofs.is_real.Tie as tie
-use Rattle.calendar.proofs.is_real.Reads as reads
-use Rattle.calendar.proofs.is_real.Lts as lts
-use Rattle.calendar.proofs.month_len.Reads as month-len-reads
 
--- src/lib.rt:85:9
 returns : tie.Need-returns
 unfolding real
 returns c = simp (lt-leb _ _ (c .if1 .taken))
 
--- src/lib.rt:88:9
 returns-2 : tie.Need-returns-2
 unfolding real
 returns-2 c =
     let at-if1 = c .before .before in
     simp (le-leb _ _ (at-if1 .if1 .left), lt-leb _ _ (c .if2 .taken))
 
--- src/lib.rt:91:9
 returns-3 : tie.Need-returns-3
 unfolding real
 returns-3 c =
@@ -29,11 +23,9 @@ returns-3 c =
     let at-if1 = at-if2 .before .before in
     simp (le-leb _ _ (at-if1 .if1 .left), le-leb _ _ (at-if2 .if2 .left), lt-leb _ _ (c .if3 .taken))
 
--- src/lib.rt:93:14
 month-len-requires : tie.Need-month-len-requires
 month-len-requires c κs = search needs
 
--- src/lib.rt:81:1
 returns-4 : tie.Need-returns-4
 unfolding real
 returns-4 c =

@@ -1,40 +1,33 @@
+-- `calendar::later_day` meets its contract: by the sign of the shift. Assumes nothing.
 use mathlib.Core.Path.{refl}
 use Rattle.calendar.proofs.Signs.{is-neg, is-pos, minus, there, back}
 use native.Mathlib.Omega.{arith}
 use borrow.Author.Needs.{needs}
 use Rattle.calendar.proofs.later_day.Statement.{statement}
 use Rattle.calendar.proofs.later_day.Tie as tie
-use Rattle.calendar.proofs.later_day.Reads as reads
-use Rattle.calendar.proofs.later_day.Lts as lts
 
--- src/lib.rt:136:18
 sub-k : tie.Need-sub-k
 sub-k c =
     let n = is-neg _ (c .before .fits .days) (c .if1 .taken) in
     rw (n .1, back _ (n .2), minus) (record { sfits = n .2 })
 
--- src/lib.rt:136:17
 cast-k : tie.Need-cast-k
 cast-k c =
     let n = is-neg _ (c .before .fits .days) (c .if1 .taken) in
     rw (n .1, back _ (n .2), minus, there _ (n .2)) (tt, omega arith)
 
--- src/lib.rt:138:25
 add-result : tie.Need-add-result
 add-result c = search needs
 
--- src/lib.rt:138:20
 sub-result : tie.Need-sub-result
 sub-result c = search needs
 
--- src/lib.rt:138:13
 returns : tie.Need-returns
 returns c =
     let at-start = c .before .before in
     let n = is-neg _ (at-start .fits .days) (c .before .if1 .taken) in
     rw (n .1, back _ (n .2), minus, there _ (n .2)) refl
 
--- src/lib.rt:140:9
 returns-2 : tie.Need-returns-2
 returns-2 c =
     let at-start = c .before .before in
@@ -42,19 +35,16 @@ returns-2 c =
     let l = rw (n .1, back _ (n .2), minus, there _ (n .2)) at (c .if2 .left) in
     rw (n .1) (omega (arith, l))
 
--- src/lib.rt:142:9
 cast-result : tie.Need-cast-result
 cast-result c =
     let n = is-pos _ (c .before .fits .days) (c .if1 .left) in
     rw (n .1, there _ (n .2)) (tt, omega arith)
 
--- src/lib.rt:142:5
 add-result-2 : tie.Need-add-result-2
 add-result-2 c =
     let n = is-pos _ (c .before .fits .days) (c .if1 .left) in
     rw (n .1, there _ (n .2)) (omega arith)
 
--- src/lib.rt:131:1
 returns-3 : tie.Need-returns-3
 returns-3 c =
     let n = is-pos _ (c .before .fits .days) (c .if1 .left) in

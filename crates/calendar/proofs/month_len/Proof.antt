@@ -1,3 +1,4 @@
+-- `calendar::month_len` meets its contract: the days of a month, by the formula of `Closed`. Assumes nothing.
 use mathlib.Core.Path.{refl, sym, _∙_}
 use borrow.Author.Tests.{lt-ltb, le-ltb, eq-eqb, ne-eqb}
 use Rattle.calendar.proofs.Closed.{month-closed, month-none}
@@ -5,25 +6,18 @@ use native.Mathlib.Omega.{arith}
 use borrow.Author.Needs.{needs}
 use Rattle.calendar.proofs.month_len.Statement.{statement}
 use Rattle.calendar.proofs.month_len.Tie as tie
-use Rattle.calendar.proofs.month_len.Reads as reads
-use Rattle.calendar.proofs.month_len.Lts as lts
-use Rattle.calendar.proofs.is_leap.Reads as is-leap-reads
 
--- src/lib.rt:45:9
 returns : tie.Need-returns
 returns c = rw (month-closed (c .before .args .y) (c .before .args .m) (omega arith), lt-ltb _ _ (c .if1 .taken)) refl
 
--- src/lib.rt:48:9
 returns-2 : tie.Need-returns-2
 returns-2 c =
     let at-start = c .before .before in
     sym (month-none (at-start .args .y) (at-start .args .m) (c .if2 .taken))
 
--- src/lib.rt:51:12
 is-leap-requires : tie.Need-is-leap-requires
 is-leap-requires c κs = search needs
 
--- src/lib.rt:52:13
 returns-3 : tie.Need-returns-3
 returns-3 c =
     let at-if3 = c .before .before in
@@ -37,7 +31,6 @@ returns-3 c =
     )
     refl
 
--- src/lib.rt:54:9
 returns-4 : tie.Need-returns-4
 returns-4 c =
     let at-if3 = c .before .before in
@@ -51,15 +44,12 @@ returns-4 c =
     )
     refl
 
--- src/lib.rt:56:11
 add-result : tie.Need-add-result
 add-result c = search needs
 
--- src/lib.rt:56:5
 add-result-2 : tie.Need-add-result-2
 add-result-2 c = search needs
 
--- src/lib.rt:41:1
 returns-5 : tie.Need-returns-5
 returns-5 c =
     let at-if1 = c .before .before in

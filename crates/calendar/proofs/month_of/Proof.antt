@@ -1,14 +1,12 @@
-use Prim.Native.Nat.{_<_, _+_, _-_, _≤_, _*_, _/_}
+-- `calendar::month_of` meets its contract. The loop's invariant: the month begins before the day. The measure: the months left.
+-- Assumes nothing.
+use Prim.Native.Nat.{_<_, _+_, _-_, _≤_, _/_}
 use Rattle.calendar.specs.Spans.{before}
 use Rattle.calendar.specs.Dates.{monthLen}
 use Rattle.calendar.proofs.Closed.{month-high, month-below, year-long}
-use borrow.Author.Needs.{needs}
 use native.Mathlib.Omega.{arith}
 use Rattle.calendar.proofs.month_of.Statement.{statement}
 use Rattle.calendar.proofs.month_of.Tie as tie
-use Rattle.calendar.proofs.month_of.Reads as reads
-use Rattle.calendar.proofs.month_of.Lts as lts
-use Rattle.calendar.proofs.before_month.Reads as before-month-reads
 
 abbrev Inv-loop : tie.InvT-loop
 Inv-loop y n m₀ m = (1 ≤ m) × (before (monthLen y) m < n)
@@ -16,48 +14,39 @@ Inv-loop y n m₀ m = (1 ≤ m) × (before (monthLen y) m < n)
 abbrev μ-loop : tie.MeasureT-loop
 μ-loop y n m₀ m = 13 - m
 
--- src/lib.rt:113:18
 sub-m : tie.Need-sub-m Inv-loop μ-loop
 sub-m c = omega arith
 
--- src/lib.rt:113:17
 add-m : tie.Need-add-m Inv-loop μ-loop
 add-m c = omega arith
 
--- src/lib.rt:114:5
 loop-holds : tie.Need-loop-holds Inv-loop μ-loop
 loop-holds c =
     let a = c .args in
     (omega arith, omega (arith, month-high (a .y) ((a .n - 1) / 31 + 1) (omega (arith, year-long (a .y), c .pre .1))))
 
--- src/lib.rt:114:27
 add-before-month : tie.Need-add-before-month Inv-loop μ-loop
 add-before-month c = omega (arith, month-below (c .before .args .y) (c .before .args .n) (c .loop .m) (c .before .pre .1) (c .loop .inv .1))
 
--- src/lib.rt:114:11
 before-month-requires : tie.Need-before-month-requires Inv-loop μ-loop
 before-month-requires c κs =
     omega (arith, month-below (c .before .args .y) (c .before .args .n) (c .loop .m) (c .before .pre .1) (c .loop .inv .1))
 
--- src/lib.rt:115:9
 add-m-2 : tie.Need-add-m-2 Inv-loop μ-loop
 add-m-2 c =
     let at-loop = c .before .before in
     let at-start = at-loop .before in
     omega (arith, month-below (at-start .args .y) (at-start .args .n) (at-loop .loop .m) (at-start .pre .1) (at-loop .loop .inv .1))
 
--- src/lib.rt:114:5
 loop-less : tie.Need-loop-less Inv-loop μ-loop
 loop-less c =
     let at-loop = c .before .before in
     let at-start = at-loop .before in
     omega (arith, month-below (at-start .args .y) (at-start .args .n) (at-loop .loop .m) (at-start .pre .1) (at-loop .loop .inv .1))
 
--- src/lib.rt:114:5
 loop-again : tie.Need-loop-again Inv-loop μ-loop
 loop-again c = (omega arith, omega (arith, c .before .before-month .ensures))
 
--- src/lib.rt:109:1
 returns : tie.Need-returns Inv-loop μ-loop
 returns c =
     let at-loop = c .before .before in

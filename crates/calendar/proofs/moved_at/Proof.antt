@@ -1,77 +1,59 @@
+-- `calendar::moved_at` meets its contract: the four pairs of digits, one after another, and the shift. Assumes nothing.
 use mathlib.Core.Path.{refl, sym, ap, _∙_}
 use mir.Facts.{toZ-ofZ}
 use Rattle.calendar.specs.Dates.{moved}
-use Rattle.calendar.specs.Values.{dateAt, numberIn}
+use Rattle.calendar.specs.Text.{dateAt, numberIn}
 use Rattle.calendar.proofs.TextLaws.{text-two}
 use native.Mathlib.Omega.{arith}
 use borrow.Author.Needs.{needs}
 use Rattle.calendar.proofs.moved_at.Statement.{statement}
 use Rattle.calendar.proofs.moved_at.Tie as tie
-use Rattle.calendar.proofs.moved_at.Reads as reads
-use Rattle.calendar.proofs.moved_at.Lts as lts
-use Rattle.calendar.proofs.Date.shifted.Reads as shifted-reads
-use Rattle.calendar.proofs.two_digits.Reads as two-digits-reads
 
--- src/lib.rt:196:37
 shared-slice-read-two-digits : tie.Need-shared-slice-read-two-digits
 shared-slice-read-two-digits c = search needs
 
--- src/lib.rt:196:45
 add-two-digits : tie.Need-add-two-digits
 add-two-digits c = search needs
 
--- src/lib.rt:196:43
 shared-slice-read-two-digits-2 : tie.Need-shared-slice-read-two-digits-2
 shared-slice-read-two-digits-2 c = search needs
 
--- src/lib.rt:196:26
 two-digits-requires : tie.Need-two-digits-requires
 two-digits-requires c κs = search needs
 
--- src/lib.rt:196:21
 enum-known-c : tie.Need-enum-known-c
 enum-known-c c = search needs
 
--- src/lib.rt:197:9
 enum-told : tie.Need-enum-told
 enum-told c = search needs
 
--- src/lib.rt:197:9
 returns : tie.Need-returns
 unfolding dateAt
 returns c =
     let at-two-digits = c .before .before in
     rw (sym (at-two-digits .two-digits .ensures) ∙ ap numberIn (c .enum-told .given .1)) refl
 
--- src/lib.rt:199:39
 add-two-digits-2 : tie.Need-add-two-digits-2
 add-two-digits-2 c = search needs
 
--- src/lib.rt:199:37
 shared-slice-read-two-digits-3 : tie.Need-shared-slice-read-two-digits-3
 shared-slice-read-two-digits-3 c = search needs
 
--- src/lib.rt:199:49
 add-two-digits-3 : tie.Need-add-two-digits-3
 add-two-digits-3 c = search needs
 
--- src/lib.rt:199:47
 shared-slice-read-two-digits-4 : tie.Need-shared-slice-read-two-digits-4
 shared-slice-read-two-digits-4 c = search needs
 
--- src/lib.rt:199:26
 two-digits-requires-2 : tie.Need-two-digits-requires-2
 two-digits-requires-2 c κs = search needs
 
--- src/lib.rt:199:21
 enum-known-y : tie.Need-enum-known-y
 enum-known-y c = search needs
 
--- src/lib.rt:200:9
 enum-told-2 : tie.Need-enum-told-2
 enum-told-2 c = search needs
 
--- src/lib.rt:200:9
 returns-2 : tie.Need-returns-2
 unfolding dateAt
 returns-2 c =
@@ -82,35 +64,27 @@ returns-2 c =
     let c₂ = sym (at-two-digits2 .two-digits2 .ensures) ∙ ap numberIn (c .enum-told2 .given .1) in
     rw (c₁, c₂) refl
 
--- src/lib.rt:202:39
 add-two-digits-4 : tie.Need-add-two-digits-4
 add-two-digits-4 c = search needs
 
--- src/lib.rt:202:37
 shared-slice-read-two-digits-5 : tie.Need-shared-slice-read-two-digits-5
 shared-slice-read-two-digits-5 c = search needs
 
--- src/lib.rt:202:49
 add-two-digits-5 : tie.Need-add-two-digits-5
 add-two-digits-5 c = search needs
 
--- src/lib.rt:202:47
 shared-slice-read-two-digits-6 : tie.Need-shared-slice-read-two-digits-6
 shared-slice-read-two-digits-6 c = search needs
 
--- src/lib.rt:202:26
 two-digits-requires-3 : tie.Need-two-digits-requires-3
 two-digits-requires-3 c κs = search needs
 
--- src/lib.rt:202:21
 enum-known-m : tie.Need-enum-known-m
 enum-known-m c = search needs
 
--- src/lib.rt:203:9
 enum-told-3 : tie.Need-enum-told-3
 enum-told-3 c = search needs
 
--- src/lib.rt:203:9
 returns-3 : tie.Need-returns-3
 unfolding dateAt
 returns-3 c =
@@ -124,35 +98,27 @@ returns-3 c =
     let c₃ = sym (at-two-digits3 .two-digits3 .ensures) ∙ ap numberIn (c .enum-told3 .given .1) in
     rw (c₁, c₂, c₃) refl
 
--- src/lib.rt:205:39
 add-two-digits-6 : tie.Need-add-two-digits-6
 add-two-digits-6 c = search needs
 
--- src/lib.rt:205:37
 shared-slice-read-two-digits-7 : tie.Need-shared-slice-read-two-digits-7
 shared-slice-read-two-digits-7 c = search needs
 
--- src/lib.rt:205:49
 add-two-digits-7 : tie.Need-add-two-digits-7
 add-two-digits-7 c = search needs
 
--- src/lib.rt:205:47
 shared-slice-read-two-digits-8 : tie.Need-shared-slice-read-two-digits-8
 shared-slice-read-two-digits-8 c = search needs
 
--- src/lib.rt:205:26
 two-digits-requires-4 : tie.Need-two-digits-requires-4
 two-digits-requires-4 c κs = search needs
 
--- src/lib.rt:205:21
 enum-known-d : tie.Need-enum-known-d
 enum-known-d c = search needs
 
--- src/lib.rt:206:9
 enum-told-4 : tie.Need-enum-told-4
 enum-told-4 c = search needs
 
--- src/lib.rt:206:9
 returns-4 : tie.Need-returns-4
 unfolding dateAt
 returns-4 c =
@@ -169,15 +135,15 @@ returns-4 c =
     let c₄ = sym (at-two-digits4 .two-digits4 .ensures) ∙ ap numberIn (c .enum-told4 .given .1) in
     rw (c₁, c₂, c₃, c₄) refl
 
--- src/lib.rt:208:29
 mul-t25 : tie.Need-mul-t25
 mul-t25 c =
-    let at-c = c .before .before .before .before .before .before .before .before .before .before .before .before .before .before .before .before .before .before .before in
+    let at-c =
+    c .before .before .before .before .before .before .before .before .before .before .before .before .before .before
+    .before .before .before .before .before in
     let at-two-digits = at-c .before .before in
     let c₁ = sym (at-two-digits .two-digits .ensures) ∙ ap numberIn (at-c .c .given .1) in
     omega (arith, text-two _ _ _ c₁ .small)
 
--- src/lib.rt:208:29
 add-t26 : tie.Need-add-t26
 add-t26 c =
     let at-y = c .before .before .before .before .before .before .before .before .before .before .before .before .before in
@@ -188,11 +154,9 @@ add-t26 c =
     let c₂ = sym (at-two-digits2 .two-digits2 .ensures) ∙ ap numberIn (at-y .y .given .1) in
     omega (arith, text-two _ _ _ c₁ .small, text-two _ _ _ c₂ .small)
 
--- src/lib.rt:209:5
 shifted-requires : tie.Need-shifted-requires
 shifted-requires c κs = search needs
 
--- src/lib.rt:192:1
 returns-5 : tie.Need-returns-5
 unfolding dateAt
 returns-5 c =

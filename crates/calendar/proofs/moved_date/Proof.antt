@@ -1,24 +1,17 @@
-use mathlib.Core.Path.{_≡_}
+-- `calendar::moved_date` meets its contract: by the length of the piece. Assumes nothing.
 use mir.Facts.{toZ-ofZ}
 use Rattle.calendar.proofs.Judging.{long, at-date, no-date}
 use native.Mathlib.Omega.{arith}
 use borrow.Author.Needs.{needs}
 use Rattle.calendar.proofs.moved_date.Statement.{statement}
 use Rattle.calendar.proofs.moved_date.Tie as tie
-use Rattle.calendar.proofs.moved_date.Reads as reads
-use Rattle.calendar.proofs.moved_date.Lts as lts
-use Rattle.calendar.proofs.moved_at.Reads as moved-at-reads
-use Rattle.calendar.proofs.right_length.Reads as right-length-reads
 
--- src/lib.rt:226:25
 sub-right-length : tie.Need-sub-right-length
 sub-right-length c = search needs
 
--- src/lib.rt:226:8
 right-length-requires : tie.Need-right-length-requires
 right-length-requires c κs = search needs
 
--- src/lib.rt:227:9
 moved-at-requires : tie.Need-moved-at-requires
 moved-at-requires c κs =
     let at-start = c .before .before .before in
@@ -30,7 +23,6 @@ moved-at-requires c κs =
       at-start .pre .1,
     )
 
--- src/lib.rt:227:9
 returns : tie.Need-returns
 returns c =
     let at-right-length = c .before .before in
@@ -39,7 +31,6 @@ returns c =
     at-date (a .da) (a .s .now) (a .a) (a .b) (at-start .pre .1) (a .days) (toZ-ofZ (at-start .fits .days))
     (at-right-length .right-length .ensures) (c .before .if1 .taken) (c .moved-at .ensures)
 
--- src/lib.rt:222:1
 returns-2 : tie.Need-returns-2
 returns-2 c =
     let at-start = c .before .before .before in

@@ -1,3 +1,5 @@
+-- `calendar::piece_end` meets its contract. The loop's invariant: how far the first piece goes on from here. The measure: what is
+-- left of the value. Assumes nothing.
 use mathlib.Core.Path.{_≡_, refl, sym, _∙_}
 use Prim.Native.Nat.{_+_, _-_, _≤_}
 use lib.ListN.{length}
@@ -5,12 +7,9 @@ use Rattle.basis.specs.Bytes.{part}
 use Rattle.basis.specs.Pieces.{pieces}
 use Rattle.calendar.specs.Values.{firstPiece}
 use Rattle.calendar.proofs.Walks.{end-none, end-mark, end-more}
-use borrow.Author.Needs.{needs}
 use native.Mathlib.Omega.{arith}
 use Rattle.calendar.proofs.piece_end.Statement.{statement}
 use Rattle.calendar.proofs.piece_end.Tie as tie
-use Rattle.calendar.proofs.piece_end.Reads as reads
-use Rattle.calendar.proofs.piece_end.Lts as lts
 
 abbrev Inv-loop : tie.InvT-loop
 Inv-loop s a stop b₀ b =
@@ -19,17 +18,14 @@ Inv-loop s a stop b₀ b =
 abbrev μ-loop : tie.MeasureT-loop
 μ-loop s a stop b₀ b = stop - b
 
--- src/lib.rt:234:5
 loop-holds : tie.Need-loop-holds Inv-loop μ-loop
 loop-holds c = (omega arith, c .pre .0, refl)
 
--- src/lib.rt:235:12
 shared-slice-read-if1 : tie.Need-shared-slice-read-if1 Inv-loop μ-loop
 shared-slice-read-if1 c =
     let at-start = c .before .before .before in
     omega (arith, at-start .pre .1)
 
--- src/lib.rt:236:13
 returns : tie.Need-returns Inv-loop μ-loop
 returns c =
     let at-loop-test = c .before .before in
@@ -38,17 +34,14 @@ returns c =
     sym (end-mark (at-start .args .s .now) (at-start .args .stop) (at-start .pre .1) (at-loop .loop .b) (at-loop-test .loop-test .taken)
     (c .if1 .taken)) ∙ at-loop .loop .inv .2
 
--- src/lib.rt:238:9
 add-b : tie.Need-add-b Inv-loop μ-loop
 add-b c =
     let at-start = c .before .before .before .before in
     omega (arith, at-start .pre .1)
 
--- src/lib.rt:234:5
 loop-less : tie.Need-loop-less Inv-loop μ-loop
 loop-less c = omega arith
 
--- src/lib.rt:234:5
 loop-again : tie.Need-loop-again Inv-loop μ-loop
 loop-again c =
     let at-loop-test = c .before .before in
@@ -60,7 +53,6 @@ loop-again c =
           (at-loop-test .loop-test .taken) (c .if1 .left) ∙ at-loop .loop .inv .2,
     )
 
--- src/lib.rt:229:1
 returns-2 : tie.Need-returns-2 Inv-loop μ-loop
 returns-2 c =
     let at-start = c .before .before in

@@ -1,4 +1,5 @@
-use mathlib.Core.Path.{_≡_, ap, _∙_}
+-- `calendar::put_piece` meets its contract: with the date moved, or as it is. Assumes nothing.
+use mathlib.Core.Path.{ap, _∙_}
 use mir.Facts.{toZ-ofZ}
 use Rattle.buffer.specs.Buffer.{laid}
 use Rattle.calendar.specs.Dates.{dateIn}
@@ -7,29 +8,19 @@ use native.Mathlib.Omega.{arith}
 use borrow.Author.Needs.{needs}
 use Rattle.calendar.proofs.put_piece.Statement.{statement}
 use Rattle.calendar.proofs.put_piece.Tie as tie
-use Rattle.calendar.proofs.put_piece.Reads as reads
-use Rattle.calendar.proofs.put_piece.Lts as lts
-use Rattle.buffer.proofs.copy_block.Reads as copy-block-reads
-use Rattle.calendar.proofs.moved_date.Reads as moved-date-reads
-use Rattle.calendar.proofs.put_date.Reads as put-date-reads
 
--- src/lib.rt:312:9
 moved-date-requires : tie.Need-moved-date-requires
 moved-date-requires c κs = search needs
 
--- src/lib.rt:314:55
 enum-told : tie.Need-enum-told
 enum-told c = search needs
 
--- src/lib.rt:314:27
 copy-block-requires : tie.Need-copy-block-requires
 copy-block-requires c κs = search needs
 
--- src/lib.rt:315:19
 enum-known-m : tie.Need-enum-known-m
 enum-known-m c = search needs
 
--- src/lib.rt:316:13
 put-date-requires : tie.Need-put-date-requires
 put-date-requires c κs =
     let at-m = c .before .before in
@@ -43,11 +34,9 @@ put-date-requires c κs =
       at-start .pre .2,
     )
 
--- src/lib.rt:317:35
 add-copy-block : tie.Need-add-copy-block
 add-copy-block c = search needs
 
--- src/lib.rt:317:60
 add-copy-block-2 : tie.Need-add-copy-block-2
 add-copy-block-2 c =
     let at-m = c .before .before .before .before .before .before in
@@ -61,7 +50,6 @@ add-copy-block-2 c =
       at-start .pre .2,
     )
 
--- src/lib.rt:317:13
 copy-block-requires-2 : tie.Need-copy-block-requires-2
 copy-block-requires-2 c κs =
     let at-m = c .before .before .before .before .before .before in
@@ -76,11 +64,9 @@ copy-block-requires-2 c κs =
       at-start .pre .2,
     )
 
--- src/lib.rt:308:1
 same-length : tie.Need-same-length
 same-length c = search needs
 
--- src/lib.rt:308:1
 returns : tie.Need-returns
 returns c =
     let at-copy-block = c .before .before in
@@ -92,11 +78,9 @@ returns c =
     (at-moved-date .moved-date .ensures) (ap dateIn (at-enum-told .enum-told .given .1)) in
     (at-copy-block .copy-block .ensures .0, at-copy-block .copy-block .ensures .1 ∙ ap (laid (a .out .now) (a .pos)) e)
 
--- src/lib.rt:308:1
 same-length-2 : tie.Need-same-length-2
 same-length-2 c = search needs
 
--- src/lib.rt:308:1
 returns-2 : tie.Need-returns-2
 returns-2 c =
     let at-copy-block2 = c .before .before in

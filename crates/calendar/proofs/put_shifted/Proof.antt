@@ -1,4 +1,6 @@
-use mathlib.Core.Path.{_≡_, ap, _∙_}
+-- `calendar::put_shifted` meets its contract. The loop's invariant is `Writing`: what is written and the pieces left make the
+-- text. The measure: what is left of the value. Assumes nothing.
+use mathlib.Core.Path.{ap, _∙_}
 use Prim.Native.Nat.{_-_, _^_}
 use lib.ListN.{length}
 use mir.Syntax.{w32}
@@ -10,13 +12,6 @@ use borrow.Author.Needs.{needs}
 use native.Mathlib.Omega.{arith}
 use Rattle.calendar.proofs.put_shifted.Statement.{statement}
 use Rattle.calendar.proofs.put_shifted.Tie as tie
-use Rattle.calendar.proofs.put_shifted.Reads as reads
-use Rattle.calendar.proofs.put_shifted.Lts as lts
-use Rattle.buffer.proofs.copy_block.Reads as copy-block-reads
-use Rattle.buffer.proofs.put.Reads as put-reads
-use Rattle.calendar.proofs.dates_end.Reads as dates-end-reads
-use Rattle.calendar.proofs.piece_end.Reads as piece-end-reads
-use Rattle.calendar.proofs.put_piece.Reads as put-piece-reads
 
 abbrev Inv-loop : tie.InvT-loop
 Inv-loop da s from to days out₀ pos stop a₀ p₀ out a p = Writing da s from to (toZ w32 days) stop out₀ pos out a p
@@ -24,21 +19,17 @@ Inv-loop da s from to days out₀ pos stop a₀ p₀ out a p = Writing da s from
 abbrev μ-loop : tie.MeasureT-loop
 μ-loop da s from to days out₀ pos stop a₀ p₀ out a p = stop - a
 
--- src/lib.rt:331:9
 dates-end-requires : tie.Need-dates-end-requires Inv-loop μ-loop
 dates-end-requires c κs = search needs
 
--- src/lib.rt:334:5
 loop-holds : tie.Need-loop-holds Inv-loop μ-loop
 loop-holds c =
     let at-start = c .before .before .before in
     write-start _ _ _ _ _ _ _ (at-start .pre .0) (at-start .pre .1) (c .dates-end .ensures)
 
--- src/lib.rt:335:13
 piece-end-requires : tie.Need-piece-end-requires Inv-loop μ-loop
 piece-end-requires c κs = let g = c .loop .inv in omega (arith, g .hi, g .upto, g .in-s)
 
--- src/lib.rt:336:13
 put-piece-requires : tie.Need-put-piece-requires Inv-loop μ-loop
 put-piece-requires c κs =
     let at-loop = c .before .before in
@@ -47,7 +38,6 @@ put-piece-requires c κs =
     let u = write-cut g (c .before .piece-end .ensures) in
     omega (arith, u .from, u .upto, g .lo, g .upto, g .in-s, g .place, at-start .pre .2)
 
--- src/lib.rt:338:13
 copy-block-requires : tie.Need-copy-block-requires Inv-loop μ-loop
 copy-block-requires c κs =
     let at-put-piece = c .before .before .before .before in
@@ -58,7 +48,6 @@ copy-block-requires c κs =
     let e = write-end g (at-piece-end .piece-end .ensures) (at-put-piece .put-piece .ensures) in
     omega (arith, e, g .lo, g .hi, g .upto, g .in-s, c .before .if1 .taken, at-start .pre .2)
 
--- src/lib.rt:338:13
 same-length : tie.Need-same-length Inv-loop μ-loop
 same-length c =
     let at-copy-block = c .before .before in
@@ -68,7 +57,6 @@ same-length c =
     ap length (at-copy-block .copy-block .ensures .1) ∙ length-laid _ _ _
     ∙ write-size (at-loop .loop .inv) (at-piece-end .piece-end .ensures) (at-put-piece .put-piece .ensures)
 
--- src/lib.rt:338:13
 returns : tie.Need-returns Inv-loop μ-loop
 returns c =
     let at-copy-block = c .before .before in
@@ -84,11 +72,9 @@ returns c =
           (at-copy-block .copy-block .ensures .1),
     )
 
--- src/lib.rt:340:9
 put-requires : tie.Need-put-requires Inv-loop μ-loop
 put-requires c κs = search needs
 
--- src/lib.rt:341:13
 add-a : tie.Need-add-a Inv-loop μ-loop
 add-a c =
     let at-if1 = c .before .before .before .before in
@@ -98,7 +84,6 @@ add-a c =
     let u = write-cut g (at-piece-end .piece-end .ensures) in
     omega (arith, u .upto, g .upto, g .in-s, at-if1 .if1 .left)
 
--- src/lib.rt:342:13
 add-p : tie.Need-add-p Inv-loop μ-loop
 add-p c =
     let at-if1 = c .before .before .before .before in
@@ -112,7 +97,6 @@ add-p c =
           (omega (arith, u .upto, at-if1 .if1 .left)) (at-start .pre .2);
     }
 
--- src/lib.rt:334:5
 loop-less : tie.Need-loop-less Inv-loop μ-loop
 loop-less c =
     let at-if1 = c .before .before .before .before in
@@ -121,7 +105,6 @@ loop-less c =
     let u = write-cut (at-loop .loop .inv) (at-piece-end .piece-end .ensures) in
     omega (arith, u .from, u .upto, at-if1 .if1 .left)
 
--- src/lib.rt:334:5
 loop-again : tie.Need-loop-again Inv-loop μ-loop
 loop-again c =
     let at-put = c .before .before in

@@ -1,31 +1,24 @@
-use mathlib.Core.Path.{refl}
+-- `calendar::two_digits` meets its contract: the tests of `twoDigits`, in its order. Assumes nothing.
 use borrow.Author.Tests.{le-leb, lt-leb}
-use Rattle.calendar.specs.Values.{twoDigits}
-use native.Mathlib.Omega.{arith}
+use Rattle.calendar.specs.Text.{twoDigits}
 use borrow.Author.Needs.{needs}
 use Rattle.calendar.proofs.two_digits.Statement.{statement}
 use Rattle.calendar.proofs.two_digits.Tie as tie
-use Rattle.calendar.proofs.two_digits.Reads as reads
-use Rattle.calendar.proofs.two_digits.Lts as lts
 
--- src/lib.rt:177:9
 returns : tie.Need-returns
 unfolding twoDigits
 returns c = simp (lt-leb _ _ (c .if1 .taken))
 
--- src/lib.rt:180:9
 returns-2 : tie.Need-returns-2
 unfolding twoDigits
 returns-2 c = simp (le-leb _ _ (c .before .if1 .left), lt-leb _ _ (c .if2 .taken))
 
--- src/lib.rt:183:9
 returns-3 : tie.Need-returns-3
 unfolding twoDigits
 returns-3 c =
     let at-if1 = c .before .before in
     simp (le-leb _ _ (at-if1 .if1 .left), le-leb _ _ (c .before .if2 .left), lt-leb _ _ (c .if3 .taken))
 
--- src/lib.rt:186:9
 returns-4 : tie.Need-returns-4
 unfolding twoDigits
 returns-4 c =
@@ -33,23 +26,18 @@ returns-4 c =
     let at-if1 = at-if2 .before in
     simp (le-leb _ _ (at-if1 .if1 .left), le-leb _ _ (at-if2 .if2 .left), le-leb _ _ (c .before .if3 .left), lt-leb _ _ (c .if4 .taken))
 
--- src/lib.rt:188:22
 cast-t5 : tie.Need-cast-t5
 cast-t5 c = search needs
 
--- src/lib.rt:188:17
 mul-t6 : tie.Need-mul-t6
 mul-t6 c = search needs
 
--- src/lib.rt:188:42
 cast-t8 : tie.Need-cast-t8
 cast-t8 c = search needs
 
--- src/lib.rt:188:17
 add-t9 : tie.Need-add-t9
 add-t9 c = search needs
 
--- src/lib.rt:173:1
 returns-5 : tie.Need-returns-5
 unfolding twoDigits
 returns-5 c =

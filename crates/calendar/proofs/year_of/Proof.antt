@@ -1,15 +1,13 @@
+-- `calendar::year_of` meets its contract. The loop's invariant: the year begins before the day. The measure: the years left.
+-- Assumes nothing.
 use Prim.Native.Nat.{_<_, _+_, _-_, _*_, _/_}
 use Rattle.calendar.specs.Spans.{before}
 use Rattle.calendar.specs.Dates.{lastYear, yearLen}
 use Rattle.calendar.proofs.SpansLaws.{within-below}
 use Rattle.calendar.proofs.Closed.{year-high, first-days}
-use borrow.Author.Needs.{needs}
 use native.Mathlib.Omega.{arith}
 use Rattle.calendar.proofs.year_of.Statement.{statement}
 use Rattle.calendar.proofs.year_of.Tie as tie
-use Rattle.calendar.proofs.year_of.Reads as reads
-use Rattle.calendar.proofs.year_of.Lts as lts
-use Rattle.calendar.proofs.before_year.Reads as before-year-reads
 
 abbrev Inv-loop : tie.InvT-loop
 Inv-loop n y₀ y = before yearLen y < n
@@ -17,47 +15,38 @@ Inv-loop n y₀ y = before yearLen y < n
 abbrev μ-loop : tie.MeasureT-loop
 μ-loop n y₀ y = lastYear + 1 - y
 
--- src/lib.rt:101:18
 mul-y : tie.Need-mul-y Inv-loop μ-loop
 mul-y c = omega (arith, year-high (lastYear + 1), c .pre .1)
 
--- src/lib.rt:101:18
 sub-y : tie.Need-sub-y Inv-loop μ-loop
 sub-y c = omega (arith, first-days, c .pre .0)
 
--- src/lib.rt:102:5
 loop-holds : tie.Need-loop-holds Inv-loop μ-loop
 loop-holds c = omega (arith, year-high ((4 * c .args .n - 7) / 1461), first-days, c .pre .0)
 
--- src/lib.rt:102:23
 add-before-year : tie.Need-add-before-year Inv-loop μ-loop
 add-before-year c =
     omega (arith, within-below yearLen (c .before .args .n) (c .loop .y) (lastYear + 1) (c .loop .inv) (c .before .pre .1))
 
--- src/lib.rt:102:11
 before-year-requires : tie.Need-before-year-requires Inv-loop μ-loop
 before-year-requires c κs =
     omega (arith, within-below yearLen (c .before .args .n) (c .loop .y) (lastYear + 1) (c .loop .inv) (c .before .pre .1))
 
--- src/lib.rt:103:9
 add-y : tie.Need-add-y Inv-loop μ-loop
 add-y c =
     let at-loop = c .before .before in
     let at-start = at-loop .before in
     omega (arith, within-below yearLen (at-start .args .n) (at-loop .loop .y) (lastYear + 1) (at-loop .loop .inv) (at-start .pre .1))
 
--- src/lib.rt:102:5
 loop-less : tie.Need-loop-less Inv-loop μ-loop
 loop-less c =
     let at-loop = c .before .before in
     let at-start = at-loop .before in
     omega (arith, within-below yearLen (at-start .args .n) (at-loop .loop .y) (lastYear + 1) (at-loop .loop .inv) (at-start .pre .1))
 
--- src/lib.rt:102:5
 loop-again : tie.Need-loop-again Inv-loop μ-loop
 loop-again c = omega (arith, c .before .before-year .ensures)
 
--- src/lib.rt:97:1
 returns : tie.Need-returns Inv-loop μ-loop
 returns c =
     let at-loop = c .before .before in

@@ -32,7 +32,7 @@ loop-less : tie.Need-loop-less Inv-loop μ-loop
 loop-less c = omega arith
 
 loop-again : tie.Need-loop-again Inv-loop μ-loop
-loop-again c = ⊎-elim (λ z. compared-differ (c .before .before .before .before .loop .inv) (c .before .before .before .loop-test .taken) (z .0 .taken) (z .1)) (λ z. compared-equal (c .before .before .before .before .loop .inv) (c .before .before .before .loop-test .taken) (z .0 .left) (z .1)) (c .if1 .came)
+loop-again c = ⊎-elim (λ z. compared-differ (c .before .before .before .before .loop .inv) (omega arith) (z .0 .taken) (z .1)) (λ z. compared-equal (c .before .before .before .before .loop .inv) (omega arith) (z .0 .left) (z .1)) (c .if1 .came)
 
 returns : tie.Need-returns Inv-loop μ-loop
 returns c = compared-end (c .before .loop .inv) (c .loop-test .left) (c .before .before .pre .0) (c .before .before .pre .1)

@@ -1,4 +1,5 @@
-use mathlib.Core.Path.{_≡_, sym, ap, _∙_}
+-- `calendar::Date::shifted` meets its contract: one law for each way through it. Assumes nothing.
+use mathlib.Core.Path.{sym, ap, _∙_}
 use mathlib.Core.Option.{some}
 use mir.Facts.{toZ-ofZ}
 use Rattle.calendar.proofs.DatesLaws.{real-is, real-month, number-small, moved-in, moved-low, moved-high, moved-none}
@@ -6,26 +7,16 @@ use native.Mathlib.Omega.{arith}
 use borrow.Author.Needs.{needs}
 use Rattle.calendar.proofs.Date.shifted.Statement.{statement}
 use Rattle.calendar.proofs.Date.shifted.Tie as tie
-use Rattle.calendar.proofs.Date.shifted.Reads as reads
-use Rattle.calendar.proofs.Date.shifted.Lts as lts
-use Rattle.calendar.proofs.before_month.Reads as before-month-reads
-use Rattle.calendar.proofs.before_year.Reads as before-year-reads
-use Rattle.calendar.proofs.date_of.Reads as date-of-reads
-use Rattle.calendar.proofs.is_real.Reads as is-real-reads
-use Rattle.calendar.proofs.later_day.Reads as later-day-reads
 
--- src/lib.rt:150:12
 is-real-requires : tie.Need-is-real-requires
 is-real-requires c κs = search needs
 
--- src/lib.rt:151:21
 before-year-requires : tie.Need-before-year-requires
 before-year-requires c κs =
     let at-start = c .before .before in
     let r = real-is (at-start .args .self) (sym (c .before .is-real .ensures) ∙ c .if1 .taken) in
     omega (arith, r .yₙ)
 
--- src/lib.rt:151:47
 before-month-requires : tie.Need-before-month-requires
 before-month-requires c κs =
     let at-is-real = c .before .before in
@@ -33,7 +24,6 @@ before-month-requires c κs =
     let r = real-is (at-start .args .self) (sym (at-is-real .is-real .ensures) ∙ c .before .if1 .taken) in
     omega (arith, real-month (at-start .args .self) r)
 
--- src/lib.rt:151:47
 add-n : tie.Need-add-n
 add-n c =
     let at-if1 = c .before .before .before in
@@ -42,7 +32,6 @@ add-n c =
     let r = real-is (at-start .args .self) (sym (at-is-real .is-real .ensures) ∙ at-if1 .if1 .taken) in
     omega (arith, number-small (at-start .args .self) r .0, c .before .before-month .ensures)
 
--- src/lib.rt:151:21
 add-n-2 : tie.Need-add-n-2
 add-n-2 c =
     let at-before-year = c .before .before in
@@ -52,7 +41,6 @@ add-n-2 c =
     let r = real-is (at-start .args .self) (sym (at-is-real .is-real .ensures) ∙ at-if1 .if1 .taken) in
     omega (arith, number-small (at-start .args .self) r .1, at-before-year .before-year .ensures, c .before .before-month .ensures)
 
--- src/lib.rt:152:17
 later-day-requires : tie.Need-later-day-requires
 later-day-requires c κs =
     let at-before-year = c .before .before in
@@ -62,23 +50,18 @@ later-day-requires c κs =
     let r = real-is (at-start .args .self) (sym (at-is-real .is-real .ensures) ∙ at-if1 .if1 .taken) in
     omega (arith, number-small (at-start .args .self) r .1, at-before-year .before-year .ensures, c .before .before-month .ensures)
 
--- src/lib.rt:153:16
 before-year-requires-2 : tie.Need-before-year-requires-2
 before-year-requires-2 c κs = search needs
 
--- src/lib.rt:154:37
 add-before-year : tie.Need-add-before-year
 add-before-year c = search needs
 
--- src/lib.rt:154:25
 before-year-requires-3 : tie.Need-before-year-requires-3
 before-year-requires-3 c κs = search needs
 
--- src/lib.rt:155:38
 date-of-requires : tie.Need-date-of-requires
 date-of-requires c κs = search needs
 
--- src/lib.rt:155:21
 returns : tie.Need-returns
 returns c =
     let at-before-year3 = c .before .before in
@@ -95,7 +78,6 @@ returns c =
     (at-is-real .is-real .ensures) (at-if1 .if1 .taken) (omega (arith, at-before-year2 .before-year2 .ensures))
     (omega (arith, at-before-year3 .before-year3 .ensures))
 
--- src/lib.rt:147:5
 returns-2 : tie.Need-returns-2
 returns-2 c =
     let at-later-day = c .before .before .before .before in
@@ -108,7 +90,6 @@ returns-2 c =
     (at-before-month .before-month .ensures) (at-later-day .later-day .ensures)
     (at-is-real .is-real .ensures) (at-if1 .if1 .taken) (omega (arith, c .before .before-year3 .ensures, c .if3 .left))
 
--- src/lib.rt:147:5
 returns-3 : tie.Need-returns-3
 returns-3 c =
     let at-later-day = c .before .before in
@@ -121,7 +102,6 @@ returns-3 c =
     (at-before-month .before-month .ensures) (at-later-day .later-day .ensures)
     (at-is-real .is-real .ensures) (at-if1 .if1 .taken) (omega (arith, c .before .before-year2 .ensures, c .if2 .left))
 
--- src/lib.rt:147:5
 returns-4 : tie.Need-returns-4
 returns-4 c =
     let at-start = c .before .before in
