@@ -6,6 +6,7 @@
 --     writtenOf-made                  what is written of it is well-made, one deeper than it nests (a D sequence holds an empty item)
 --     writtenOf-inj                   and decides it
 --     export-made, export-inj, written-inj    the same of the data set that is written, and of its bytes
+--     written-reads                   and the bytes read back as that data set
 use mathlib.Core.Path.{_≡_, refl, ap, ap₂, sym, _∙_}
 use mathlib.Core.Bool.{true}
 use mathlib.Core.List.{List, map, List·Memᴰ}
@@ -18,10 +19,12 @@ use Rattle.basis.specs.Choice.{among}
 use Rattle.vr.specs.Names.{DA, UI}
 use Rattle.vr.specs.Vr.{known}
 use Rattle.table.specs.Rules.{marks}
-use Rattle.layout.specs.Tree.{value}
+use Rattle.layout.specs.Tree.{value, bare}
 use Rattle.layout.specs.Heads.{allowed}
 use Rattle.layout.specs.Made.{room, Made, MadeField, MadeItems}
-use Rattle.layout.proofs.RoundLaws.{bytesOf-inj}
+use Rattle.layout.specs.Read.{good as read-well, with, read}
+use Rattle.layout.specs.Write.{bytesOf}
+use Rattle.layout.proofs.RoundLaws.{bytesOf-inj, read-bytesOf, bare-bare}
 use Rattle.uid.specs.Uid.{isRoot, longestRoot}
 use Rattle.uid.specs.Value.{mostUids}
 use Rattle.uid.specs.NewUid.{newUid, uidsText}
@@ -267,3 +270,9 @@ module _ (s : Settings) (good : isRoot (s .root) ≡ true) where
     unfolding written
     written-inj c d n m e =
         export-inj c d n m (bytesOf-inj (depth + 1) (export s c) (export s d) (export-made c n) (export-made d m) e)
+
+    -- THEOREM: what is written reads back as the data set that was meant, one level deeper than its input may nest
+    pub written-reads : (c : Content ℕ) → Numbered c s top depth 0 → with bare (read (depth + 1) (written s c)) ≡ read-well (export s c) (length (written s c))
+    unfolding written
+    written-reads c n =
+        read-bytesOf (depth + 1) (export s c) (export-made c n) ∙ ap (λ d. read-well d (length (bytesOf (export s c)))) (bare-bare (export s c))
