@@ -12,6 +12,11 @@ pub fn short() {
     report::elements(b"two_bytes_after_an_element", &mut out, c);
     pieces::element(&mut out, 20, 0x0010_0010, vr::OB, 0);
     report::elements(b"long_header_of_ten_bytes", &mut out, 30);
+}
+
+// A value, or a sequence, passes the end: 6.
+pub fn past_the_end() {
+    let mut out = pieces::desk();
     let d = pieces::element(&mut out, 20, 0x0010_0010, vr::PN, 8);
     let e = pieces::bytes(&mut out, d, 6);
     report::elements(b"value_past_the_end", &mut out, e);
@@ -22,8 +27,8 @@ pub fn short() {
     report::elements(b"sequence_past_the_end", &mut out, h);
 }
 
-// A tag that may not stand there: 7.
-pub fn tags() {
+// A group that no element has: 7.
+pub fn groups() {
     let mut out = pieces::desk();
     let a = pieces::element(&mut out, 20, 0x0002_0010, vr::UI, 0);
     report::elements(b"group_0002", &mut out, a);
@@ -35,6 +40,11 @@ pub fn tags() {
     report::elements(b"group_FFFE", &mut out, d);
     let e = pieces::element(&mut out, 20, 0xFFFD_0010, vr::UI, 0);
     report::elements(b"group_FFFD_is_allowed", &mut out, e);
+}
+
+// Tags that do not rise: 7.
+pub fn order() {
+    let mut out = pieces::desk();
     let f = pieces::element(&mut out, 20, 0x0010_0010, vr::PN, 0);
     let g = pieces::element(&mut out, f, 0x0010_0010, vr::PN, 0);
     report::elements(b"equal_tags", &mut out, g);
@@ -43,6 +53,11 @@ pub fn tags() {
     let i = pieces::sequence(&mut out, 20, 0x0010_1002, 0);
     let j = pieces::element(&mut out, i, 0x0010_0010, vr::PN, 0);
     report::elements(b"falling_after_a_sequence", &mut out, j);
+}
+
+// A mark that may not stand among elements: 7, and 9 for the one that may.
+pub fn marks() {
+    let mut out = pieces::desk();
     let k = pieces::sequence_end(&mut out, 20);
     report::elements(b"sequence_end_among_elements", &mut out, k);
     let l = pieces::item(&mut out, 20, 0);
@@ -66,20 +81,25 @@ pub fn vrs() {
     report::elements(b"second_zero_byte_not_zero", &mut out, c);
 }
 
-// An odd length, or an undefined one: 9.
-pub fn lengths() {
+// An odd length: 9.
+pub fn odd() {
     let mut out = pieces::desk();
     let a = pieces::element(&mut out, 20, 0x0010_0010, vr::PN, 3);
     let b = pieces::bytes(&mut out, a, 4);
     report::elements(b"odd_length", &mut out, b);
     report::elements(b"odd_past_the_end", &mut out, a);
+    let f = pieces::sequence(&mut out, 20, 0x0010_1002, 7);
+    let g = pieces::bytes(&mut out, f, 8);
+    report::elements(b"sequence_of_odd_length", &mut out, g);
+}
+
+// An undefined length: 9.
+pub fn undefined() {
+    let mut out = pieces::desk();
     let c = pieces::element(&mut out, 20, 0x7FE0_0010, vr::OB, pieces::UNDEFINED);
     report::elements(b"undefined_ob", &mut out, c);
     let d = pieces::element(&mut out, 20, 0x0010_0010, vr::UN, pieces::UNDEFINED);
     report::elements(b"undefined_un", &mut out, d);
     let e = pieces::element(&mut out, 20, 0x0010_0010, vr::PN, 65535);
     report::elements(b"short_length_FFFF", &mut out, e);
-    let f = pieces::sequence(&mut out, 20, 0x0010_1002, 7);
-    let g = pieces::bytes(&mut out, f, 8);
-    report::elements(b"sequence_of_odd_length", &mut out, g);
 }

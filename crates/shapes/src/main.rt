@@ -8,15 +8,21 @@ mod wholes;
 
 fn main() {
     wholes::fine();
+    wholes::sequences();
     elements::short();
-    elements::tags();
+    elements::past_the_end();
+    elements::groups();
+    elements::order();
+    elements::marks();
     elements::vrs();
-    elements::lengths();
+    elements::odd();
+    elements::undefined();
     items::short();
     items::tags();
     items::lengths();
     wholes::ends();
     wholes::depths();
+    wholes::ninth();
     wholes::depths_elsewhere();
     wholes::long();
 }

@@ -10,6 +10,11 @@ pub fn fine() {
     report::whole(b"one_element", &out, b);
     let c = pieces::sequence(&mut out, b, 0x0010_1002, 0);
     report::whole(b"empty_sequence", &out, c);
+}
+
+// Sequences with stated lengths and with undefined ones.
+pub fn sequences() {
+    let mut out = pieces::desk();
     let d = pieces::sequence(&mut out, 0, 0x0010_1002, 16);
     let e = pieces::item(&mut out, d, 8);
     let f = pieces::element(&mut out, e, 0x0010_0020, vr::LO, 0);
@@ -54,6 +59,12 @@ pub fn depths() {
     let e = pieces::sequence(&mut out, a, 0x0040_0555, 0);
     let f = pieces::close(&mut out, e, 8);
     report::whole(b"empty_sequence_in_the_eighth_item", &out, f);
+}
+
+// What else may stand where a ninth item would.
+pub fn ninth() {
+    let mut out = pieces::desk();
+    let a = pieces::nest(&mut out, 0, 8);
     let g = pieces::sequence(&mut out, a, 0x0040_0555, pieces::UNDEFINED);
     let h = pieces::sequence_end(&mut out, g);
     let i = pieces::close(&mut out, h, 8);
