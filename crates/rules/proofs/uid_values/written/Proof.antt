@@ -1,0 +1,67 @@
+-- `rules::uid_values::written` is safe: a short root and a number of few digits. Assumes nothing.
+use Rattle.uid.proofs.NewUidLaws.{length-newUid, decimal-short}
+use native.Mathlib.Omega.{arith}
+use borrow.Author.Needs.{needs}
+use Rattle.rules.proofs.uid_values.written.Statement.{statement}
+use Rattle.rules.proofs.uid_values.written.Tie as tie
+use Rattle.rules.proofs.uid_values.written.Reads as reads
+use Rattle.rules.proofs.uid_values.written.Lts as lts
+use Rattle.rules.proofs.report.counted.Reads as counted-reads
+use Rattle.uid.proofs.put_uid.Reads as put-uid-reads
+
+-- src/uid_values.rt:87:9
+returns : tie.Need-returns
+returns c = search needs
+
+-- src/uid_values.rt:90:9
+returns-2 : tie.Need-returns-2
+returns-2 c = search needs
+
+-- src/uid_values.rt:93:36
+slice-aggregate-put-uid : tie.Need-slice-aggregate-put-uid
+slice-aggregate-put-uid c = search needs
+
+-- src/uid_values.rt:93:9
+put-uid-requires : tie.Need-put-uid-requires
+put-uid-requires c κs =
+    let start = c .before .before .before .before in
+    omega (arith, length-newUid (start .args .root .now) (start .args .n), decimal-short 3 (start .args .n) (omega arith))
+
+-- src/uid_values.rt:95:25
+sub-counted : tie.Need-sub-counted
+sub-counted c = search needs
+
+-- src/uid_values.rt:95:25
+part-counted-start : tie.Need-part-counted-start
+part-counted-start c = search needs
+
+-- src/uid_values.rt:95:25
+part-counted-end : tie.Need-part-counted-end
+part-counted-end c = search needs
+
+-- src/uid_values.rt:95:9
+counted-requires : tie.Need-counted-requires
+counted-requires c κs = search needs
+
+-- src/uid_values.rt:85:1
+returns-3 : tie.Need-returns-3
+returns-3 c = search needs
+
+-- src/uid_values.rt:85:1
+returns-4 : tie.Need-returns-4
+returns-4 c = search needs
+
+pub written-spec : {M : Type 1} → statement M
+written-spec =
+    tie.close
+    (tie.spec
+    returns
+    returns-2
+    slice-aggregate-put-uid
+    put-uid-requires
+    sub-counted
+    part-counted-start
+    part-counted-end
+    counted-requires
+    returns-3
+    returns-4)
