@@ -2,17 +2,20 @@
 --     First cs i n o       the condition with the number n is the first of cs that holds of i, at the offset o
 --     answer-refused       DEMAND 1, over the definitions: refused with n at o exactly when condition n is the first to hold, there
 --     Accepted i, accepted     what is known of a run that is done: no condition holds
+--     refused-output, refused-slots, refused-untouched     what a refusal leaves: zeros, the slots in use, or the ledger as it was
 use mathlib.Core.Path.{_≡_, refl, sym, ap, _∙_}
 use mathlib.Core.Logic.{_↔_, ⊎-elim}
 use Rattle.basis.proofs.ChoiceLaws.{both-true}
 use mathlib.Core.Bool.{Bool, true, false, not, _&&_}
 use mathlib.Core.List.{List, [], _∷_}
 use mathlib.Core.Option.{Option, none, some}
-use Prim.Native.Nat.{ℕ, _≤_}
+use Prim.Native.Nat.{ℕ, _-_, _*_, _≤_, _<_}
 use native.Mathlib.Omega.{arith}
 use lib.Dec.{eqb, ltb}
-use lib.ListN.{length}
-use borrow.Author.Tests.{ltb-false, eqb-false}
+use lib.ListN.{length, take, replicate}
+use lib.Seq.{length-take-le, take-at}
+use borrow.Author.Tests.{ltb-false, eqb-false, le-ltb, lt-ltb}
+use Rattle.ledger.proofs.SlotLaws.{slotsOf-fits}
 use Rattle.basis.specs.Choice.{pick}
 use Rattle.kept.proofs.FaultsLaws.{Eleven, firstFault-number}
 use Rattle.layout.specs.Limits.{deepest, longest}
@@ -20,14 +23,14 @@ use Rattle.layout.specs.Tree.{Elements, Place}
 use Rattle.layout.specs.Read.{Result, good, fault, read}
 use Rattle.layout.proofs.MadeLaws.{read-fault}
 use Rattle.uid.specs.Uid.{isRoot}
-use Rattle.ledger.specs.Slots.{slotsOf}
+use Rattle.ledger.specs.Slots.{slotSize, slotsOf}
 use Rattle.lists.specs.Lists.{listOk}
 use Rattle.options.specs.Settings.{settingsFault}
 use Rattle.kept.specs.Fates.{top}
 use Rattle.kept.specs.Faults.{Fault, firstFault}
 use Rattle.answer.specs.Input.{Input, readAs, treeOf, treeIn, slotsAfter, bytesFor}
 use Rattle.answer.specs.Conditions.{when, condition1, condition2, condition3, condition4, condition5, shapeCondition, valueCondition, condition13, condition14, faultIs, valueIs, conditions}
-use Rattle.answer.specs.Answer.{Outcome, refused, done, firstOf, answer}
+use Rattle.answer.specs.Answer.{Outcome, refused, done, firstOf, answer, outputOf, ledgerOf}
 
 -- ---- firstOf
 
@@ -173,3 +176,20 @@ module _ (i : Input) where
         free = ltb-false _ _ (when-none _ 0 (a13 .0));
         room = ltb-false _ _ (when-none _ 0 (a14 .0));
       }
+
+  -- DEMAND 1's last sentence: what a refusal leaves
+  pub refused-output : (n o : ℕ) → answer i ≡ refused n o → outputOf i ≡ replicate (i .room) 0
+  unfolding outputOf
+  refused-output n o e = let z : i .room - 0 ≡ i .room = omega arith in rw (e, z)
+
+  pub refused-slots : (n o : ℕ) → answer i ≡ refused n o → i .used ≤ slotsOf (i .ledger)
+      → take (slotSize * i .used) (ledgerOf i) ≡ take (slotSize * i .used) (i .ledger)
+  unfolding ledgerOf
+  refused-slots n o e h =
+      let fits : slotSize * i .used ≤ length (i .ledger) = slotsOf-fits (i .ledger) (i .used) h in
+      let l : length (take (slotSize * i .used) (i .ledger)) ≡ slotSize * i .used = length-take-le (slotSize * i .used) (i .ledger) fits in
+      rw (e, le-ltb (slotsOf (i .ledger)) (i .used) h) (take-at (take (slotSize * i .used) (i .ledger)) _ (slotSize * i .used) l)
+
+  pub refused-untouched : (n o : ℕ) → answer i ≡ refused n o → slotsOf (i .ledger) < i .used → ledgerOf i ≡ i .ledger
+  unfolding ledgerOf
+  refused-untouched n o e h = rw (e, lt-ltb (slotsOf (i .ledger)) (i .used) h)

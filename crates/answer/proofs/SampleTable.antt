@@ -44,8 +44,17 @@ use Rattle.answer.specs.Answer.{firstOf, answer, reportOf, outputOf, led
 use Rattle.answer.specs.Conditions.{condition1, condition2, condition3, condition4, condition5, shapeCondition, valueCondition, condition13, condition14}
 use Rattle.answer.specs.Input.{readAs, treeOf, content, slotsAfter, bytesFor}
 use Rattle.basis.specs.Text.{hex}
-use Rattle.answer.specs.Samples.{samples, tried, told}
+use Rattle.answer.specs.Samples.{samples, further, untouched, tried, told, triedUntouched, toldUntouched}
 
 pub sample-table : map tried samples ≡ map told samples
 unfolding ℕ-discrete every basis-among hex pieces after joined kindOf servedByLists dummyOf allowed lengthFault valueHead sequenceHead longHead vrHead tagHead elementHead itemBody itemAt itemHead elementsAt itemsAt read bareField bare bareItems mark header putElements putField putSequence putItems bytesOf digitsIn decimal newUid uidSpan digits lead component components all formed ifUids trimmed uidsOf padOf valueOf slotFor ledgerFor place number learn learns numbers sameName slotOf slotsIn flat leap monthLen dateOf real before calendar-place twoDigits dateAt movedDate padded datesEnd shiftedText allMove shiftedValue entryAt entriesFrom entries listOk findFrom find asked lists-number numberAt chosenIn optAt settingsFault dateWord actionFor onRow actionOf overriding table ruled rowIn rising legal mapBody mapContent mapWalks namesInBody namesIn namesInWalks namesOf countsField countsOf countsItems fate fieldFault firstFault itemsFault spaced listed emptiedAs dummiedAs keptField keptOf keptItems codeItem optionItems codes insert marked numberedBody numbered numberedWalks numberedAll shiftedAs writtenField writtenOf writtenItems export written firstOf answer reportOf outputOf ledgerOf condition1 condition2 condition3 condition4 condition5 shapeCondition valueCondition condition13 condition14 readAs treeOf content slotsAfter bytesFor
 sample-table = refl
+
+-- the same of the cases of our own
+pub further-table : map tried further ≡ map told further
+unfolding ℕ-discrete every basis-among hex pieces after joined kindOf servedByLists dummyOf allowed lengthFault valueHead sequenceHead longHead vrHead tagHead elementHead itemBody itemAt itemHead elementsAt itemsAt read bareField bare bareItems mark header putElements putField putSequence putItems bytesOf digitsIn decimal newUid uidSpan digits lead component components all formed ifUids trimmed uidsOf padOf valueOf slotFor ledgerFor place number learn learns numbers sameName slotOf slotsIn flat leap monthLen dateOf real before calendar-place twoDigits dateAt movedDate padded datesEnd shiftedText allMove shiftedValue entryAt entriesFrom entries listOk findFrom find asked lists-number numberAt chosenIn optAt settingsFault dateWord actionFor onRow actionOf overriding table ruled rowIn rising legal mapBody mapContent mapWalks namesInBody namesIn namesInWalks namesOf countsField countsOf countsItems fate fieldFault firstFault itemsFault spaced listed emptiedAs dummiedAs keptField keptOf keptItems codeItem optionItems codes insert marked numberedBody numbered numberedWalks numberedAll shiftedAs writtenField writtenOf writtenItems export written firstOf answer reportOf outputOf ledgerOf condition1 condition2 condition3 condition4 condition5 shapeCondition valueCondition condition13 condition14 readAs treeOf content slotsAfter bytesFor
+further-table = refl
+
+pub untouched-table : map triedUntouched untouched ≡ map toldUntouched untouched
+unfolding ℕ-discrete every basis-among hex pieces after joined kindOf servedByLists dummyOf allowed lengthFault valueHead sequenceHead longHead vrHead tagHead elementHead itemBody itemAt itemHead elementsAt itemsAt read bareField bare bareItems mark header putElements putField putSequence putItems bytesOf digitsIn decimal newUid uidSpan digits lead component components all formed ifUids trimmed uidsOf padOf valueOf slotFor ledgerFor place number learn learns numbers sameName slotOf slotsIn flat leap monthLen dateOf real before calendar-place twoDigits dateAt movedDate padded datesEnd shiftedText allMove shiftedValue entryAt entriesFrom entries listOk findFrom find asked lists-number numberAt chosenIn optAt settingsFault dateWord actionFor onRow actionOf overriding table ruled rowIn rising legal mapBody mapContent mapWalks namesInBody namesIn namesInWalks namesOf countsField countsOf countsItems fate fieldFault firstFault itemsFault spaced listed emptiedAs dummiedAs keptField keptOf keptItems codeItem optionItems codes insert marked numberedBody numbered numberedWalks numberedAll shiftedAs writtenField writtenOf writtenItems export written firstOf answer reportOf outputOf ledgerOf condition1 condition2 condition3 condition4 condition5 shapeCondition valueCondition condition13 condition14 readAs treeOf content slotsAfter bytesFor
+untouched-table = refl

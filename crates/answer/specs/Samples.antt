@@ -1,15 +1,17 @@
 -- The sample exports that document 01 marks with a star: document 01, "Sample exports". `proofs/SampleTable.antt` has the one claim
 -- about all of them. Assumes nothing.
 --     Sample              what a run is handed, what it reports, the bytes that its output begins with, the slots in use afterwards
---     samples             one line for each sample, in document 01's order
+--     samples             one line for each sample, in document 01's order (room 148 is ours)
+--     further, untouched  cases of our own, for what those do not reach
 --     tried c, told c     what the definitions say of a sample, and what the sample says
 use mathlib.Core.List.{List, [], _∷_, _++_, map}
-use Prim.Native.Nat.{ℕ}
+use Prim.Native.Nat.{ℕ, _-_}
 use lib.IntN.{ℤ, pos, negsuc}
 use lib.ListN.{length, take, drop, replicate}
 use Rattle.basis.specs.Text.{ascii, hex}
-use Rattle.vr.specs.Names.{DA, LO, UI}
-use Rattle.layout.specs.Write.{header}
+use Rattle.vr.specs.Names.{DA, LO, SQ, TM, UI}
+use Rattle.layout.specs.Heads.{itemTag, itemEnd, sequenceEnd, undefined}
+use Rattle.layout.specs.Write.{mark, header}
 use Rattle.ledger.specs.Slots.{slotOf, flat}
 use Rattle.kept.specs.Settings.{Settings}
 use Rattle.kept.specs.Counts.{Counts, nothing, counts}
@@ -90,7 +92,7 @@ uid u = u ++ 0 ∷ []
 abbrev pub studyDate : List ℕ → List ℕ
 studyDate d = element 0x0008_0020 DA d
 
--- 1.11 .. 1, of so many characters
+-- 1. and so many ones
 abbrev pub rootOf : ℕ → List ℕ
 rootOf n = ascii "1." ++ replicate n 0x31
 
@@ -125,8 +127,75 @@ samples =
     ∷ sample (run plain 300 (element 0x0009_0010 LO (ascii "ACME"))) (accepted 140 0 (counts 0 0 0 1)) gained []
     ∷ []
 
-abbrev pub tried : Sample → Report × List ℕ × List ℕ
-tried c = (reportOf (c .input), take (length (c .begins)) (outputOf (c .input)), ledgerOf (c .input))
+-- ---- ours: what the starred samples do not reach
 
-abbrev pub told : Sample → Report × List ℕ × List ℕ
-told c = (c .report, c .begins, filledUp (length (c .input .ledger)) (flat (c .slots)))
+-- a ledger with one UID in use, and dirt behind it
+abbrev pub dirty : List ℕ
+dirty = slotOf (ascii "1.2.3") ++ replicate 64 0x55
+
+abbrev pub from : List ℕ → ℕ → Settings → List ℕ → Input
+from ledger used s lent = record { lent = lent; settings = s; ledger = ledger; used = used; room = 400 }
+
+abbrev pub bothLists : Settings
+bothLists = record { options = 0; shift = pos 0; root = ascii "1.9"; study = subject7; site = hex "90 80 40 04 53 49 54 45" }
+
+abbrev pub siteOnly : Settings
+siteOnly = record { options = 0; shift = pos 0; root = ascii "1.9"; study = []; site = hex "90 80 40 04 53 49 54 45" }
+
+-- a refusal with one entry in use, or with more than there are
+abbrev pub noWith : ℕ → ℕ → ℕ → Report
+noWith used number offset = record { refusal = number; offset = offset; length = 0; used = used; counts = nothing }
+
+-- (0008,1199) has no row and is walked into: its item holds a time under Modified Dates, and a sequence that becomes one empty item
+abbrev pub inItem : List ℕ → List ℕ
+inItem es = header 0x0008_1199 SQ undefined ++ mark itemTag undefined ++ es ++ mark itemEnd 0 ++ mark sequenceEnd 0
+
+abbrev pub emptyItem : ℕ → List ℕ
+emptyItem tag = header tag SQ undefined ++ mark itemTag undefined ++ mark itemEnd 0 ++ mark sequenceEnd 0
+
+abbrev pub further : List Sample
+further =
+    -- both lists have the tag: the study's; the site's alone
+    sample (from (replicate 128 0) 0 bothLists doeJane) (accepted 154 0 (counts 0 1 0 0)) (hex "10 00 10 00 50 4E 06 00 53 55 42 4A 37 20" ++ gained) []
+    ∷ sample (from (replicate 128 0) 0 siteOnly doeJane) (accepted 152 0 (counts 0 1 0 0)) (hex "10 00 10 00 50 4E 04 00 53 49 54 45" ++ gained) []
+    -- a UID that is in use keeps its number, and what lies behind is zeroed; a new one is the next
+    ∷ sample (from dirty 1 plain (twoUids (uid (ascii "1.2.4")) (uid (ascii "1.2.3")))) (accepted 168 2 (counts 0 0 2 0))
+    (among (ascii "1.9.2") (ascii "1.9.1")) (slotOf (ascii "1.2.3") ∷ slotOf (ascii "1.2.4") ∷ [])
+    -- refusal 12 at the second element: its offset, the count as it was, the slot in use as it was, the rest zeroed
+    ∷ sample (from dirty 1 (moving (pos 1)) (studyDate (ascii "20200301") ++ element 0x0008_0021 DA (ascii "20200230"))) (noWith 1 12 16) []
+    (slotOf (ascii "1.2.3") ∷ [])
+    -- more new UIDs than free slots: 13, before the room is asked
+    ∷ sample (from (slotOf (ascii "1.2.3")) 1 plain (twoUids (uid (ascii "1.2.3")) (uid (ascii "1.2.4")))) (noWith 1 13 0) [] (slotOf (ascii "1.2.3") ∷ [])
+    -- a sequence is walked into: the time in its item is kept, and (0008,1111), which is D, becomes one empty item
+    ∷ sample (from (replicate 128 0) 0 (moving (pos 0)) (inItem (element 0x0008_0030 TM (ascii "101500") ++ element 0x0008_1111 SQ [])))
+    (accepted 338 0 (counts 2 1 0 0)) (inItem (element 0x0008_0030 TM (ascii "101500") ++ emptyItem 0x0008_1111)) []
+    ∷ []
+
+-- a count above the slots leaves the ledger as it is, whichever number is returned
+abbrev pub untouched : List (Input × Report)
+untouched =
+    (from dirty 3 plain doeJane, noWith 3 3 0)
+    ∷ (from dirty 3 (rooted []) doeJane, noWith 3 2 0)
+    ∷ (from dirty 3 (rooted (rootOf 57)) [], noWith 3 3 0)
+    ∷ []
+
+-- the report, what the output begins with, what follows its length, and the whole ledger
+abbrev pub Seen : Type 0
+Seen = Report × List ℕ × List ℕ × List ℕ
+
+abbrev pub tried : Sample → Seen
+tried c = (
+  reportOf (c .input),
+  take (length (c .begins)) (outputOf (c .input)),
+  drop (reportOf (c .input) .length) (outputOf (c .input)),
+  ledgerOf (c .input),
+)
+
+abbrev pub told : Sample → Seen
+told c = (c .report, c .begins, replicate (c .input .room - c .report .length) 0, filledUp (length (c .input .ledger)) (flat (c .slots)))
+
+abbrev pub triedUntouched : Input × Report → Report × List ℕ
+triedUntouched c = (reportOf (c .0), ledgerOf (c .0))
+
+abbrev pub toldUntouched : Input × Report → Report × List ℕ
+toldUntouched c = (c .1, c .0 .ledger)
