@@ -1,7 +1,7 @@
 -- The fourteen conditions of document 01, "When the station says no", each by itself: the offset at which it holds, or that it does
 -- not. The order in which they are tried is the order of `conditions`. Assumes nothing.
 --     when b o          the offset o where the test b holds
---     condition1 .. condition14    one for each line of the table
+--     condition1 to condition5, shapeCondition n (6 to 10), valueCondition n (11 and 12), condition13, condition14    one for each line
 --     conditions        all of them, with their numbers, in order
 use mathlib.Core.Bool.{Bool, true, false, not, _&&_}
 use mathlib.Core.List.{List, [], _∷_}

@@ -1,7 +1,5 @@
 -- Laws of `specs/Counts.antt`. No contract cites this file. Assumes nothing.
---     total c                   the four counts together
---     elementsMet es s level    the number of elements of a level, with those of the items that are walked into
---     countsOf-total            the counts sum to that number
+--     countsOf-total            the counts sum to the number of elements met
 --     countsIn c s level        the kept, replaced and renamed elements of kept content
 --     Alike a b                 the counts a and b differ in removals at most
 --     countsOf-kept             kept content tells the three counts
@@ -19,36 +17,9 @@ use Rattle.kept.specs.Fates.{Level, Fate, removed, kept, walked, emptied
 use Rattle.kept.specs.Content.{Body, shown, blank, uids, walk, Content, end, keep, Walks, last, each, mapBody, mapContent, mapWalks, namesInBody, namesIn}
 use Rattle.kept.specs.Kept.{Uid, keptValue, keptSequence, entry, keptField, keptOf, keptItems}
 use Rattle.kept.specs.Numbering.{numberedBody, numbered, numberedWalks}
-use Rattle.kept.specs.Counts.{Counts, counts, nothing, plus, one, inside, countsField, countsOf, countsItems}
+use Rattle.kept.specs.Counts.{Counts, counts, nothing, plus, one, inside, countsField, countsOf, countsItems, total, within, fieldMet, elementsMet, itemsMet}
 
 -- ---- the four together
-
-abbrev pub total : Counts → ℕ
-total c = c .stayed + c .replaced + c .renamings + c .removals
-
--- n where the fate is to be walked into
-abbrev pub within : ℕ → Fate → ℕ
-within n removed = 0
-within n kept = 0
-within n walked = n
-within n emptied = 0
-within n dummied = 0
-within n renamed = 0
-within n shifted = 0
-within n wrong = 0
-
-unfoldable mutual
-  pub fieldMet : {L : Type 0} → Field L → Settings → Level → Fate → ℕ
-  fieldMet (value v) s level φ = 0
-  fieldMet (items is) s level φ = within (itemsMet is s (below level)) φ
-
-  pub elementsMet : {L : Type 0} → Elements L → Settings → Level → ℕ
-  elementsMet nil s level = 0
-  elementsMet (elem l tag vr f es) s level = 1 + (fieldMet f s level (fate s level tag vr) + elementsMet es s level)
-
-  pub itemsMet : {L : Type 0} → Items L → Settings → Level → ℕ
-  itemsMet noItem s level = 0
-  itemsMet (item es is) s level = elementsMet es s level + itemsMet is s level
 
 one-total : (φ : Fate) → total (one φ) ≡ 1
 one-total removed = refl

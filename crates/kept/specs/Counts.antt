@@ -4,6 +4,8 @@
 --     one φ                   the count of one element of this fate
 --     plus a b                both together
 --     countsOf es s level     those of the elements es of a level, with the items that are walked into
+--     total c                 the four together
+--     elementsMet es s level  the number of elements of a level, with those of the items that are walked into
 use Prim.Native.Nat.{ℕ, _+_}
 use Rattle.layout.specs.Tree.{Field, value, items, Elements, nil, elem, Items, none as noItem, item}
 use Rattle.kept.specs.Settings.{Settings}
@@ -24,7 +26,7 @@ nothing = counts 0 0 0 0
 abbrev pub plus : Counts → Counts → Counts
 plus a b = counts (a .stayed + b .stayed) (a .replaced + b .replaced) (a .renamings + b .renamings) (a .removals + b .removals)
 
--- a walked sequence is kept; shifted elements, empty or not, are replaced (K12)
+-- a walked sequence is kept; shifted elements, empty or not, are replaced (K12); what is wrong is refused and never counted
 abbrev pub one : Fate → Counts
 one removed = counts 0 0 0 1
 one kept = counts 1 0 0 0
@@ -59,3 +61,31 @@ unfoldable mutual
   pub countsItems : {L : Type 0} → Items L → Settings → Level → Counts
   countsItems noItem s level = nothing
   countsItems (item es is) s level = plus (countsOf es s level) (countsItems is s level)
+
+-- Document 01, Kept content and the four counts, 2nd paragraph: the sum of the counts, and the number of elements that it is
+abbrev pub total : Counts → ℕ
+total c = c .stayed + c .replaced + c .renamings + c .removals
+
+-- n where the fate is to be walked into
+abbrev pub within : ℕ → Fate → ℕ
+within n removed = 0
+within n kept = 0
+within n walked = n
+within n emptied = 0
+within n dummied = 0
+within n renamed = 0
+within n shifted = 0
+within n wrong = 0
+
+unfoldable mutual
+  pub fieldMet : {L : Type 0} → Field L → Settings → Level → Fate → ℕ
+  fieldMet (value v) s level φ = 0
+  fieldMet (items is) s level φ = within (itemsMet is s (below level)) φ
+
+  pub elementsMet : {L : Type 0} → Elements L → Settings → Level → ℕ
+  elementsMet nil s level = 0
+  elementsMet (elem l tag vr f es) s level = 1 + (fieldMet f s level (fate s level tag vr) + elementsMet es s level)
+
+  pub itemsMet : {L : Type 0} → Items L → Settings → Level → ℕ
+  itemsMet noItem s level = 0
+  itemsMet (item es is) s level = elementsMet es s level + itemsMet is s level

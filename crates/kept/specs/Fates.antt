@@ -1,5 +1,5 @@
--- What happens to an element: document 01, "What each action writes". It follows from the element's level, tag and VR alone, never
--- from its value (K4). Laws: `proofs/FatesLaws.antt`. Assumes nothing.
+-- What happens to an element: document 01, "What each action writes". Under given settings it follows from the element's level, tag and
+-- VR alone, never from its value (K4). Laws: `proofs/FatesLaws.antt`. Assumes nothing.
 --     Level                     where an element stands: on the top level, in an item, or in an item of a sequence that is treated as D
 --     Fate                      what happens to it
 --     byAction a vr             the fate that an action gives an element of this VR, one line for each action

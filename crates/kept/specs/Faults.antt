@@ -38,7 +38,7 @@ abbrev pub first : Option Fault → Option Fault → Option Fault
 first none y = y
 first (some x) y = some x
 
--- a sequence is judged inside where it is walked into, and is itself at fault where its fate is
+-- a sequence is judged inside where it is walked into (no sequence is wrong: U walks into it)
 abbrev pub sequenceFault : Option Fault → Fate → ℕ → Option Fault
 sequenceFault inside removed offset = none
 sequenceFault inside kept offset = none
