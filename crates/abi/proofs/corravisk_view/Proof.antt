@@ -1,3 +1,4 @@
+-- `abi::corravisk_view` meets its contract. Assumes nothing.
 use mathlib.Core.Path.{_≡_, sym, _∙_}
 use native.Mathlib.Omega.{arith}
 use borrow.Author.Needs.{needs}
@@ -7,39 +8,30 @@ use Rattle.abi.proofs.corravisk_view.Reads as reads
 use Rattle.abi.proofs.corravisk_view.Lts as lts
 use Rattle.view.proofs.answer_to.Reads as answer-to-reads
 
--- src/lib.rt:13:9
 answer-to-requires : tie.Need-answer-to-requires
 answer-to-requires c κs = search needs
 
--- src/lib.rt:15:23
 enum-known-a : tie.Need-enum-known-a
 enum-known-a c = search needs
 
--- src/lib.rt:16:47
 sub-t10 : tie.Need-sub-t10
 sub-t10 c = (rw (c .before .a .given .1) at (c .before .before .before .answer-to .ensures .1)) .0
 
--- src/lib.rt:19:13
 enum-told : tie.Need-enum-told
 enum-told c = search needs
 
--- src/lib.rt:21:25
 enum-known-a-2 : tie.Need-enum-known-a-2
 enum-known-a-2 c = search needs
 
--- src/lib.rt:22:24
 cast-t12 : tie.Need-cast-t12
 cast-t12 c = search needs
 
--- src/lib.rt:9:1
 returns : tie.Need-returns
 returns c = rw (sym (c .before .before .before .before .answer-to .ensures .0) ∙ c .before .before .a .given .1)
 
--- src/lib.rt:9:1
 returns-2 : tie.Need-returns-2
 returns-2 c = rw (sym (c .before .before .before .answer-to .ensures .0) ∙ c .before .enum-told .given .1)
 
--- src/lib.rt:9:1
 returns-3 : tie.Need-returns-3
 returns-3 c = rw (sym (c .before .before .before .before .answer-to .ensures .0) ∙ c .before .before .a2 .given .1)
 

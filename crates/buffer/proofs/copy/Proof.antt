@@ -1,3 +1,4 @@
+-- `buffer::copy` meets its contract. Assumes nothing.
 use Rattle.buffer.proofs.Laws.{laid-none, length-laid, block-more}
 use lib.ListN.{length, take, drop, getD, set, replicate}
 use Prim.Native.Nat.{ℕ, _≤_, _<_, _+_, _-_, suc}
@@ -16,35 +17,27 @@ Inv-loop s from n out₀ pos i₀ out i = (i ≤ n) × (out ≡ laid out₀ pos 
 abbrev μ-loop : tie.MeasureT-loop
 μ-loop s from n out₀ pos i₀ out i = n - i
 
--- src/lib.rt:22:5
 loop-holds : tie.Need-loop-holds Inv-loop μ-loop
 loop-holds c = (omega arith, sym (laid-none _ _))
 
--- src/lib.rt:23:26
 add-out : tie.Need-add-out Inv-loop μ-loop
 add-out c = omega arith
 
--- src/lib.rt:23:24
 shared-slice-read-out : tie.Need-shared-slice-read-out Inv-loop μ-loop
 shared-slice-read-out c = omega arith
 
--- src/lib.rt:23:13
 add-out-2 : tie.Need-add-out-2 Inv-loop μ-loop
 add-out-2 c = omega arith
 
--- src/lib.rt:23:9
 slice-write-out : tie.Need-slice-write-out Inv-loop μ-loop
 slice-write-out c = let e = ap length (c .before .before .loop .inv .1) ∙ length-laid _ _ _ in omega (arith, e)
 
--- src/lib.rt:24:9
 add-i : tie.Need-add-i Inv-loop μ-loop
 add-i c = omega arith
 
--- src/lib.rt:22:5
 loop-less : tie.Need-loop-less Inv-loop μ-loop
 loop-less c = omega arith
 
--- src/lib.rt:22:5
 loop-again : tie.Need-loop-again Inv-loop μ-loop
 loop-again c =
     let a = c .before .before .before .args in let i = c .before .before .loop .i in (
@@ -52,11 +45,9 @@ loop-again c =
       ap (λ z. set z (a .pos + i) (getD (a .s .now) (a .from + i) 0)) (c .before .before .loop .inv .1) ∙ block-more (a .out .now) (a .s .now) (a .pos) (a .from) i (omega arith) (omega arith),
     )
 
--- src/lib.rt:17:1
 same-length : tie.Need-same-length Inv-loop μ-loop
 same-length c = ap length (c .before .loop .inv .1) ∙ length-laid _ _ _
 
--- src/lib.rt:17:1
 returns : tie.Need-returns Inv-loop μ-loop
 returns c = let e : c .before .loop .i ≡ c .before .before .args .n = omega arith in rw (← e) (c .before .loop .inv .1)
 

@@ -1,3 +1,4 @@
+-- `heads::put_header` meets its contract. Assumes nothing.
 use mathlib.Core.Path.{_≡_, sym, _∙_}
 use Rattle.layout.proofs.MarkLaws.{header-unknown, header-short, header-long, header-sequence}
 use native.Mathlib.Omega.{arith}
@@ -10,71 +11,54 @@ use Rattle.heads.proofs.put_long.Reads as put-long-reads
 use Rattle.heads.proofs.put_short.Reads as put-short-reads
 use Rattle.vr.proofs.kind_of.Reads as kind-of-reads
 
--- src/lib.rt:54:9
 kind-of-requires : tie.Need-kind-of-requires
 kind-of-requires c κs = search needs
 
--- src/lib.rt:56:48
 enum-told : tie.Need-enum-told
 enum-told c = search needs
 
--- src/lib.rt:56:26
 put-short-requires : tie.Need-put-short-requires
 put-short-requires c κs = search needs
 
--- src/lib.rt:57:46
 enum-told-2 : tie.Need-enum-told-2
 enum-told-2 c = search needs
 
--- src/lib.rt:57:24
 put-short-requires-2 : tie.Need-put-short-requires-2
 put-short-requires-2 c κs = search needs
 
--- src/lib.rt:58:44
 enum-told-3 : tie.Need-enum-told-3
 enum-told-3 c = search needs
 
--- src/lib.rt:58:23
 put-long-requires : tie.Need-put-long-requires
 put-long-requires c κs = search needs
 
--- src/lib.rt:59:48
 enum-told-4 : tie.Need-enum-told-4
 enum-told-4 c = search needs
 
--- src/lib.rt:59:27
 put-long-requires-2 : tie.Need-put-long-requires-2
 put-long-requires-2 c κs = search needs
 
--- src/lib.rt:50:1
 same-length : tie.Need-same-length
 same-length c = search needs
 
--- src/lib.rt:50:1
 returns : tie.Need-returns
 returns c = rw (header-unknown _ _ _ (sym (c .before .before .before .before .before .before .kind-of .ensures) ∙ c .before .before .before .before .enum-told .given .1)) (c .before .before .put-short .ensures)
 
--- src/lib.rt:50:1
 same-length-2 : tie.Need-same-length-2
 same-length-2 c = search needs
 
--- src/lib.rt:50:1
 returns-2 : tie.Need-returns-2
 returns-2 c = rw (header-short _ _ _ (sym (c .before .before .before .before .before .before .kind-of .ensures) ∙ c .before .before .before .before .enum-told2 .given .1)) (c .before .before .put-short2 .ensures)
 
--- src/lib.rt:50:1
 same-length-3 : tie.Need-same-length-3
 same-length-3 c = search needs
 
--- src/lib.rt:50:1
 returns-3 : tie.Need-returns-3
 returns-3 c = rw (header-long _ _ _ (sym (c .before .before .before .before .before .before .kind-of .ensures) ∙ c .before .before .before .before .enum-told3 .given .1)) (c .before .before .put-long .ensures)
 
--- src/lib.rt:50:1
 same-length-4 : tie.Need-same-length-4
 same-length-4 c = search needs
 
--- src/lib.rt:50:1
 returns-4 : tie.Need-returns-4
 returns-4 c = rw (header-sequence _ _ _ (sym (c .before .before .before .before .before .before .kind-of .ensures) ∙ c .before .before .before .before .enum-told4 .given .1)) (c .before .before .put-long2 .ensures)
 

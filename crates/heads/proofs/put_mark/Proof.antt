@@ -1,3 +1,4 @@
+-- `heads::put_mark` meets its contract. Assumes nothing.
 use Rattle.layout.specs.Write.{mark}
 use native.Mathlib.Omega.{arith}
 use borrow.Author.Needs.{needs}
@@ -7,51 +8,39 @@ use Rattle.heads.proofs.put_mark.Reads as reads
 use Rattle.heads.proofs.put_mark.Lts as lts
 use Rattle.buffer.proofs.copy_block.Reads as copy-block-reads
 
--- src/lib.rt:69:9
 cast-t8 : tie.Need-cast-t8
 cast-t8 c = search needs
 
--- src/lib.rt:70:9
 cast-t12 : tie.Need-cast-t12
 cast-t12 c = search needs
 
--- src/lib.rt:71:9
 cast-t14 : tie.Need-cast-t14
 cast-t14 c = search needs
 
--- src/lib.rt:72:9
 cast-t17 : tie.Need-cast-t17
 cast-t17 c = search needs
 
--- src/lib.rt:73:9
 cast-t19 : tie.Need-cast-t19
 cast-t19 c = search needs
 
--- src/lib.rt:74:9
 cast-t22 : tie.Need-cast-t22
 cast-t22 c = search needs
 
--- src/lib.rt:75:9
 cast-t25 : tie.Need-cast-t25
 cast-t25 c = search needs
 
--- src/lib.rt:76:9
 cast-t28 : tie.Need-cast-t28
 cast-t28 c = search needs
 
--- src/lib.rt:78:24
 slice-aggregate-copy-block : tie.Need-slice-aggregate-copy-block
 slice-aggregate-copy-block c = search needs
 
--- src/lib.rt:78:5
 copy-block-requires : tie.Need-copy-block-requires
 copy-block-requires c κs = search needs
 
--- src/lib.rt:64:1
 same-length : tie.Need-same-length
 same-length c = search needs
 
--- src/lib.rt:64:1
 returns : tie.Need-returns
 unfolding mark
 returns c = (omega (arith, c .before .before .copy-block .ensures .0), c .before .before .copy-block .ensures .1)

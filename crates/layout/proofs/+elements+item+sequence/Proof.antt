@@ -1,3 +1,4 @@
+-- The cycle of `layout::elements`, `layout::item`, `layout::sequence` meets its contracts. Assumes nothing.
 use Rattle.layout.specs.Walks.{Inside, Within}
 use Rattle.layout.specs.declared.Head.the-variants.{Plain, Seq}
 use Rattle.layout.specs.declared.Spot.the-variants.{Item}

@@ -1,3 +1,4 @@
+-- `layout::element_head` meets its contract. Assumes nothing.
 use borrow.Author.Tests.{eq-eqb, ne-eqb, lt-ltb, le-ltb}
 use Rattle.layout.specs.Heads.{elementHead}
 use Rattle.layout.proofs.HeadLaws.{apart}
@@ -11,65 +12,51 @@ use Rattle.layout.proofs.tag_at.Reads as tag-at-reads
 use Rattle.layout.proofs.tag_head.Reads as tag-head-reads
 use Rattle.layout.proofs.u32_at.Reads as u32-at-reads
 
--- src/lib.rt:191:8
 sub-if1 : tie.Need-sub-if1
 sub-if1 c = search needs
 
--- src/lib.rt:194:17
 returns : tie.Need-returns
 unfolding elementHead
 returns c = (simp (eq-eqb _ _ (c .before .if2 .taken), c .if3 .taken, lt-ltb _ _ (c .before .before .if1 .taken)), tt)
 
--- src/lib.rt:196:13
 returns-2 : tie.Need-returns-2
 unfolding elementHead
 returns-2 c = (simp (eq-eqb _ _ (c .before .if2 .taken), c .if3 .left), omega arith)
 
--- src/lib.rt:198:9
 returns-3 : tie.Need-returns-3
 unfolding elementHead
 returns-3 c = (simp (ne-eqb _ _ (c .if2 .left), lt-ltb _ _ (c .before .if1 .taken)), tt)
 
--- src/lib.rt:200:9
 tag-at-requires : tie.Need-tag-at-requires
 tag-at-requires c κs = search needs
 
--- src/lib.rt:203:31
 add-u32-at : tie.Need-add-u32-at
 add-u32-at c = search needs
 
--- src/lib.rt:203:17
 u32-at-requires : tie.Need-u32-at-requires
 u32-at-requires c κs = search needs
 
--- src/lib.rt:205:17
 returns-4 : tie.Need-returns-4
 unfolding elementHead
 returns-4 c = (simp (apart _ _ (c .before .before .before .before .before .if1 .left), le-ltb _ _ (c .before .before .before .before .before .if1 .left), ← (c .before .before .before .before .tag-at .ensures .0), c .before .before .before .if4 .taken, eq-eqb _ _ (c .before .before .if5 .taken), ← (c .before .u32-at .ensures .0), ne-eqb _ _ (c .if6 .taken)), tt)
 
--- src/lib.rt:207:30
 add-t13 : tie.Need-add-t13
 add-t13 c = search needs
 
--- src/lib.rt:207:13
 returns-5 : tie.Need-returns-5
 unfolding elementHead
 returns-5 c = (simp (apart _ _ (c .before .before .before .before .before .if1 .left), le-ltb _ _ (c .before .before .before .before .before .if1 .left), ← (c .before .before .before .before .tag-at .ensures .0), c .before .before .before .if4 .taken, eq-eqb _ _ (c .before .before .if5 .taken), ← (c .before .u32-at .ensures .0), eq-eqb _ _ (c .if6 .left)), omega arith)
 
--- src/lib.rt:209:9
 tag-head-requires : tie.Need-tag-head-requires
 tag-head-requires c κs = search needs
 
--- src/lib.rt:209:9
 returns-6 : tie.Need-returns-6
 unfolding elementHead
 returns-6 c = (simp (apart _ _ (c .before .before .before .before .if1 .left), le-ltb _ _ (c .before .before .before .before .if1 .left), ← (c .before .before .before .tag-at .ensures .0), c .before .before .if4 .taken, ne-eqb _ _ (c .before .if5 .left)) (c .tag-head .ensures .0), c .tag-head .ensures .1)
 
--- src/lib.rt:211:5
 tag-head-requires-2 : tie.Need-tag-head-requires-2
 tag-head-requires-2 c κs = search needs
 
--- src/lib.rt:186:1
 returns-7 : tie.Need-returns-7
 unfolding elementHead
 returns-7 c = (simp (apart _ _ (c .before .before .before .if1 .left), le-ltb _ _ (c .before .before .before .if1 .left), ← (c .before .before .tag-at .ensures .0), c .before .if4 .left) (c .tag-head2 .ensures .0), c .tag-head2 .ensures .1)

@@ -1,3 +1,4 @@
+-- `layout::item_at` meets its contract. Assumes nothing.
 use borrow.Author.Tests.{eq-eqb, ne-eqb}
 use Rattle.layout.specs.Heads.{itemAt}
 use native.Mathlib.Omega.{arith}
@@ -9,33 +10,26 @@ use Rattle.layout.proofs.item_at.Lts as lts
 use Rattle.layout.proofs.item_body.Reads as item-body-reads
 use Rattle.layout.proofs.u32_at.Reads as u32-at-reads
 
--- src/lib.rt:237:9
 returns : tie.Need-returns
 unfolding itemAt
 returns c = (rw (ne-eqb _ _ (c .if1 .taken)), tt)
 
--- src/lib.rt:240:9
 returns-2 : tie.Need-returns-2
 unfolding itemAt
 returns-2 c = (rw (eq-eqb _ _ (c .before .if1 .left), eq-eqb _ _ (c .if2 .taken)), tt)
 
--- src/lib.rt:242:23
 add-u32-at : tie.Need-add-u32-at
 add-u32-at c = search needs
 
--- src/lib.rt:242:13
 u32-at-requires : tie.Need-u32-at-requires
 u32-at-requires c κs = search needs
 
--- src/lib.rt:243:15
 add-item-body : tie.Need-add-item-body
 add-item-body c = search needs
 
--- src/lib.rt:243:5
 item-body-requires : tie.Need-item-body-requires
 item-body-requires c κs = search needs
 
--- src/lib.rt:231:1
 returns-3 : tie.Need-returns-3
 unfolding itemAt
 returns-3 c = (rw (eq-eqb _ _ (c .before .before .before .if1 .left), ne-eqb _ _ (c .before .before .if2 .left), ← (c .before .u32-at .ensures .0)) (c .item-body .ensures .0), c .item-body .ensures .1 _ _ (omega arith) (omega arith))

@@ -1,3 +1,4 @@
+-- `layout::item_body` meets its contract. Assumes nothing.
 use borrow.Author.Tests.{eq-eqb, ne-eqb}
 use Rattle.layout.specs.Heads.{itemBody}
 use Rattle.layout.proofs.HeadLaws.{fault-none}
@@ -9,29 +10,23 @@ use Rattle.layout.proofs.item_body.Reads as reads
 use Rattle.layout.proofs.item_body.Lts as lts
 use Rattle.layout.proofs.length_fault.Reads as length-fault-reads
 
--- src/lib.rt:221:9
 returns : tie.Need-returns
 unfolding itemBody
 returns c = (rw (eq-eqb _ _ (c .if1 .taken)), λ at depth h d. omega arith)
 
--- src/lib.rt:223:33
 sub-length-fault : tie.Need-sub-length-fault
 sub-length-fault c = search needs
 
--- src/lib.rt:223:9
 length-fault-requires : tie.Need-length-fault-requires
 length-fault-requires c κs = search needs
 
--- src/lib.rt:225:9
 returns-2 : tie.Need-returns-2
 unfolding itemBody
 returns-2 c = (rw (ne-eqb _ _ (c .before .before .if1 .left), ← (c .before .length-fault .ensures), ne-eqb _ _ (c .if2 .taken)), λ at depth h d. tt)
 
--- src/lib.rt:227:22
 add-t6 : tie.Need-add-t6
 add-t6 c = omega (arith, fault-none _ _ (c .before .length-fault .ensures) (c .if2 .left))
 
--- src/lib.rt:215:1
 returns-3 : tie.Need-returns-3
 unfolding itemBody
 returns-3 c = (rw (ne-eqb _ _ (c .before .before .if1 .left), ← (c .before .length-fault .ensures), eq-eqb _ _ (c .if2 .left)), λ at depth h d. omega (arith, fault-none _ _ (c .before .length-fault .ensures) (c .if2 .left)))

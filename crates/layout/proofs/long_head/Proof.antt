@@ -1,3 +1,4 @@
+-- `layout::long_head` meets its contract. Assumes nothing.
 use borrow.Author.Tests.{eq-eqb, ne-eqb, lt-ltb, le-ltb}
 use Rattle.layout.specs.Heads.{longHead}
 use native.Mathlib.Omega.{arith}
@@ -11,58 +12,45 @@ use Rattle.layout.proofs.u16_at.Reads as u16-at-reads
 use Rattle.layout.proofs.u32_at.Reads as u32-at-reads
 use Rattle.layout.proofs.value_head.Reads as value-head-reads
 
--- src/lib.rt:133:8
 sub-if1 : tie.Need-sub-if1
 sub-if1 c = search needs
 
--- src/lib.rt:134:9
 returns : tie.Need-returns
 unfolding longHead
 returns c = (rw (lt-ltb _ _ (c .if1 .taken)), tt)
 
--- src/lib.rt:136:27
 add-u16-at : tie.Need-add-u16-at
 add-u16-at c = search needs
 
--- src/lib.rt:136:9
 u16-at-requires : tie.Need-u16-at-requires
 u16-at-requires c κs = search needs
 
--- src/lib.rt:138:9
 returns-2 : tie.Need-returns-2
 unfolding longHead
 returns-2 c = (rw (le-ltb _ _ (c .before .before .if1 .left), ← (c .before .u16-at .ensures .0), ne-eqb _ _ (c .if2 .taken)), tt)
 
--- src/lib.rt:140:23
 add-u32-at : tie.Need-add-u32-at
 add-u32-at c = search needs
 
--- src/lib.rt:140:13
 u32-at-requires : tie.Need-u32-at-requires
 u32-at-requires c κs = search needs
 
--- src/lib.rt:142:35
 add-sequence-head : tie.Need-add-sequence-head
 add-sequence-head c = search needs
 
--- src/lib.rt:142:9
 sequence-head-requires : tie.Need-sequence-head-requires
 sequence-head-requires c κs = search needs
 
--- src/lib.rt:142:9
 returns-3 : tie.Need-returns-3
 unfolding longHead
 returns-3 c = (rw (le-ltb _ _ (c .before .before .before .before .before .if1 .left), ← (c .before .before .before .before .u16-at .ensures .0), eq-eqb _ _ (c .before .before .before .if2 .left), c .before .if3 .taken, ← (c .before .before .u32-at .ensures .0)) (c .sequence-head .ensures .0), c .sequence-head .ensures .1 _ (omega arith))
 
--- src/lib.rt:144:25
 add-value-head : tie.Need-add-value-head
 add-value-head c = search needs
 
--- src/lib.rt:144:5
 value-head-requires : tie.Need-value-head-requires
 value-head-requires c κs = search needs
 
--- src/lib.rt:128:1
 returns-4 : tie.Need-returns-4
 unfolding longHead
 returns-4 c = (rw (le-ltb _ _ (c .before .before .before .before .before .if1 .left), ← (c .before .before .before .before .u16-at .ensures .0), eq-eqb _ _ (c .before .before .before .if2 .left), c .before .if3 .left, ← (c .before .before .u32-at .ensures .0)) (c .value-head .ensures .0), c .value-head .ensures .1 _ (omega arith))

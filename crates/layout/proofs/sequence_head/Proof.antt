@@ -1,3 +1,4 @@
+-- `layout::sequence_head` meets its contract. Assumes nothing.
 use borrow.Author.Tests.{eq-eqb, ne-eqb}
 use Rattle.layout.specs.Heads.{sequenceHead}
 use Rattle.layout.proofs.HeadLaws.{fault-none}
@@ -9,29 +10,23 @@ use Rattle.layout.proofs.sequence_head.Reads as reads
 use Rattle.layout.proofs.sequence_head.Lts as lts
 use Rattle.layout.proofs.length_fault.Reads as length-fault-reads
 
--- src/lib.rt:118:9
 returns : tie.Need-returns
 unfolding sequenceHead
 returns c = (rw (eq-eqb _ _ (c .if1 .taken)), λ at h. omega arith)
 
--- src/lib.rt:120:33
 sub-length-fault : tie.Need-sub-length-fault
 sub-length-fault c = search needs
 
--- src/lib.rt:120:9
 length-fault-requires : tie.Need-length-fault-requires
 length-fault-requires c κs = search needs
 
--- src/lib.rt:122:9
 returns-2 : tie.Need-returns-2
 unfolding sequenceHead
 returns-2 c = (rw (ne-eqb _ _ (c .before .before .if1 .left), ← (c .before .length-fault .ensures), ne-eqb _ _ (c .if2 .taken)), λ at h. tt)
 
--- src/lib.rt:124:26
 add-t7 : tie.Need-add-t7
 add-t7 c = omega (arith, fault-none _ _ (c .before .length-fault .ensures) (c .if2 .left))
 
--- src/lib.rt:112:1
 returns-3 : tie.Need-returns-3
 unfolding sequenceHead
 returns-3 c = (rw (ne-eqb _ _ (c .before .before .if1 .left), ← (c .before .length-fault .ensures), eq-eqb _ _ (c .if2 .left)), λ at h. omega (arith, fault-none _ _ (c .before .length-fault .ensures) (c .if2 .left)))

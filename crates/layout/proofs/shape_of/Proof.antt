@@ -1,3 +1,4 @@
+-- `layout::shape_of` meets its contract. Assumes nothing.
 use Rattle.layout.specs.Read.{read}
 use native.Mathlib.Omega.{arith}
 use borrow.Author.Needs.{needs}
@@ -7,11 +8,9 @@ use Rattle.layout.proofs.shape_of.Reads as reads
 use Rattle.layout.proofs.shape_of.Lts as lts
 use Rattle.layout.proofs.elements.Reads as elements-reads
 
--- src/lib.rt:341:5
 elements-requires : tie.Need-elements-requires
 elements-requires c κs = search needs
 
--- src/lib.rt:338:1
 returns : tie.Need-returns
 unfolding read
 returns c = c .elements .ensures .shape _ (omega arith)

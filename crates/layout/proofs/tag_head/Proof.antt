@@ -1,3 +1,4 @@
+-- `layout::tag_head` meets its contract. Assumes nothing.
 use borrow.Author.Tests.{lt-ltb, le-ltb, le-leb, lt-leb}
 use Rattle.layout.specs.Heads.{tagHead, allowed}
 use native.Mathlib.Omega.{arith}
@@ -8,26 +9,21 @@ use Rattle.layout.proofs.tag_head.Reads as reads
 use Rattle.layout.proofs.tag_head.Lts as lts
 use Rattle.layout.proofs.vr_head.Reads as vr-head-reads
 
--- src/lib.rt:173:9
 returns : tie.Need-returns
 unfolding tagHead allowed
 returns c = (simp (lt-leb _ _ (c .if1 .taken)), tt)
 
--- src/lib.rt:176:9
 returns-2 : tie.Need-returns-2
 unfolding tagHead allowed
 returns-2 c = (simp (le-leb _ _ (c .before .if1 .left), lt-leb _ _ (c .if2 .taken)), tt)
 
--- src/lib.rt:179:9
 returns-3 : tie.Need-returns-3
 unfolding tagHead allowed
 returns-3 c = (simp (le-leb _ _ (c .before .before .if1 .left), le-leb _ _ (c .before .if2 .left), le-ltb _ _ (c .if3 .taken)), tt)
 
--- src/lib.rt:181:5
 vr-head-requires : tie.Need-vr-head-requires
 vr-head-requires c κs = search needs
 
--- src/lib.rt:167:1
 returns-4 : tie.Need-returns-4
 unfolding tagHead allowed
 returns-4 c = (simp (le-leb _ _ (c .before .before .before .if1 .left), le-leb _ _ (c .before .before .if2 .left), lt-ltb _ _ (c .before .if3 .left)) (c .vr-head .ensures .0), c .vr-head .ensures .1)

@@ -1,3 +1,4 @@
+-- `layout::value_head` meets its contract. Assumes nothing.
 use borrow.Author.Tests.{eq-eqb, ne-eqb}
 use Rattle.layout.specs.Heads.{lengthFault, valueHead}
 use Rattle.layout.proofs.HeadLaws.{fault-none}
@@ -9,24 +10,19 @@ use Rattle.layout.proofs.value_head.Reads as reads
 use Rattle.layout.proofs.value_head.Lts as lts
 use Rattle.layout.proofs.length_fault.Reads as length-fault-reads
 
--- src/lib.rt:104:33
 sub-length-fault : tie.Need-sub-length-fault
 sub-length-fault c = search needs
 
--- src/lib.rt:104:9
 length-fault-requires : tie.Need-length-fault-requires
 length-fault-requires c κs = search needs
 
--- src/lib.rt:106:9
 returns : tie.Need-returns
 unfolding valueHead
 returns c = (rw (← (c .before .length-fault .ensures), ne-eqb _ _ (c .if1 .taken)), λ at h. tt)
 
--- src/lib.rt:108:32
 add-t7 : tie.Need-add-t7
 add-t7 c = omega (arith, fault-none _ _ (c .before .length-fault .ensures) (c .if1 .left))
 
--- src/lib.rt:99:1
 returns-2 : tie.Need-returns-2
 unfolding valueHead
 returns-2 c = (rw (← (c .before .length-fault .ensures), eq-eqb _ _ (c .if1 .left)), λ at h. omega (arith, fault-none _ _ (c .before .length-fault .ensures) (c .if1 .left)))

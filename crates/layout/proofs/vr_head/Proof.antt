@@ -1,3 +1,4 @@
+-- `layout::vr_head` meets its contract. Assumes nothing.
 use mathlib.Core.Path.{_≡_, sym, _∙_}
 use Rattle.layout.proofs.HeadLaws.{vrHead-unknown, vrHead-short, vrHead-long, vrHead-sequence}
 use native.Mathlib.Omega.{arith}
@@ -11,71 +12,54 @@ use Rattle.layout.proofs.u16_at.Reads as u16-at-reads
 use Rattle.layout.proofs.value_head.Reads as value-head-reads
 use Rattle.vr.proofs.kind_of.Reads as kind-of-reads
 
--- src/lib.rt:153:24
 add-u16-at : tie.Need-add-u16-at
 add-u16-at c = search needs
 
--- src/lib.rt:153:9
 u16-at-requires : tie.Need-u16-at-requires
 u16-at-requires c κs = search needs
 
--- src/lib.rt:154:9
 kind-of-requires : tie.Need-kind-of-requires
 kind-of-requires c κs = search needs
 
--- src/lib.rt:156:26
 enum-told : tie.Need-enum-told
 enum-told c = search needs
 
--- src/lib.rt:158:31
 enum-told-2 : tie.Need-enum-told-2
 enum-told-2 c = search needs
 
--- src/lib.rt:158:31
 add-u16-at-2 : tie.Need-add-u16-at-2
 add-u16-at-2 c = search needs
 
--- src/lib.rt:158:21
 u16-at-requires-2 : tie.Need-u16-at-requires-2
 u16-at-requires-2 c κs = search needs
 
--- src/lib.rt:159:33
 add-value-head : tie.Need-add-value-head
 add-value-head c = search needs
 
--- src/lib.rt:159:13
 value-head-requires : tie.Need-value-head-requires
 value-head-requires c κs = search needs
 
--- src/lib.rt:161:23
 enum-told-3 : tie.Need-enum-told-3
 enum-told-3 c = search needs
 
--- src/lib.rt:161:23
 long-head-requires : tie.Need-long-head-requires
 long-head-requires c κs = search needs
 
--- src/lib.rt:162:27
 enum-told-4 : tie.Need-enum-told-4
 enum-told-4 c = search needs
 
--- src/lib.rt:162:27
 long-head-requires-2 : tie.Need-long-head-requires-2
 long-head-requires-2 c κs = search needs
 
--- src/lib.rt:148:1
 returns : tie.Need-returns
 returns c = (rw (← (c .before .before .before .u16-at .ensures .0)) (sym (vrHead-unknown _ _ _ _ _ (sym (c .before .before .kind-of .ensures) ∙ c .enum-told .given .1))), tt)
 
--- src/lib.rt:148:1
 returns-2 : tie.Need-returns-2
 returns-2 c = (rw (← (c .before .before .before .before .before .u16-at .ensures .0), vrHead-short _ _ _ _ _ (sym (c .before .before .before .before .kind-of .ensures) ∙ c .before .before .enum-told2 .given .1), ← (c .before .u16-at2 .ensures .0)) (c .value-head .ensures .0), c .value-head .ensures .1 _ (omega arith))
 
--- src/lib.rt:148:1
 returns-3 : tie.Need-returns-3
 returns-3 c = (rw (← (c .before .before .before .before .u16-at .ensures .0), vrHead-long _ _ _ _ _ (sym (c .before .before .before .kind-of .ensures) ∙ c .before .enum-told3 .given .1)) (c .long-head .ensures .0), c .long-head .ensures .1)
 
--- src/lib.rt:148:1
 returns-4 : tie.Need-returns-4
 returns-4 c = (rw (← (c .before .before .before .before .u16-at .ensures .0), vrHead-sequence _ _ _ _ _ (sym (c .before .before .before .kind-of .ensures) ∙ c .before .enum-told4 .given .1)) (c .long-head2 .ensures .0), c .long-head2 .ensures .1)
 

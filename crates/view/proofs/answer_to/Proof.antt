@@ -1,3 +1,4 @@
+-- `view::answer_to` meets its contract. Assumes nothing.
 use mathlib.Core.Path.{_≡_, refl}
 use borrow.Author.Tests.{lt-ltb, le-ltb}
 use Rattle.view.specs.View.{viewOf}
@@ -9,16 +10,13 @@ use Rattle.view.proofs.answer_to.Reads as reads
 use Rattle.view.proofs.answer_to.Lts as lts
 use Rattle.view.proofs.seek.Reads as seek-reads
 
--- src/lib.rt:75:9
 returns : tie.Need-returns
 unfolding viewOf
 returns c = (rw (lt-ltb _ _ (c .if1 .taken)), tt)
 
--- src/lib.rt:77:5
 seek-requires : tie.Need-seek-requires
 seek-requires c κs = search needs
 
--- src/lib.rt:71:1
 returns-2 : tie.Need-returns-2
 unfolding viewOf
 returns-2 c = (rw (le-ltb _ _ (c .before .if1 .left)) (c .seek .ensures .0), c .seek .ensures .1)

@@ -1,3 +1,4 @@
+-- `view::seek` meets its contract. Assumes nothing.
 use Prim.Native.Nat.{_-_}
 use lib.ListN.{length}
 use Rattle.layout.specs.Walks.{Inside}
@@ -19,93 +20,73 @@ Inv-loop s wanted at₀ low₀ got₀ at low got = Seeking s wanted at low got
 abbrev μ-loop : tie.MeasureT-loop
 μ-loop s wanted at₀ low₀ got₀ at low got = length s - at
 
--- src/lib.rt:45:5
 loop-holds : tie.Need-loop-holds Inv-loop μ-loop
 loop-holds c = start
 
--- src/lib.rt:46:13
 element-head-requires : tie.Need-element-head-requires Inv-loop μ-loop
 element-head-requires c κs = omega arith
 
--- src/lib.rt:48:23
 enum-known-h : tie.Need-enum-known-h Inv-loop μ-loop
 enum-known-h c = search needs
 
--- src/lib.rt:48:29
 returns : tie.Need-returns Inv-loop μ-loop
 returns c = stop-bad (c .before .before .before .before .loop .inv) (c .before .before .before .element-head .ensures .0) (c .before .before .before .element-head .ensures .1) _ (c .before .h .given .1)
 
--- src/lib.rt:49:29
 enum-told : tie.Need-enum-told Inv-loop μ-loop
 enum-told c = search needs
 
--- src/lib.rt:49:29
 returns-2 : tie.Need-returns-2 Inv-loop μ-loop
 returns-2 c = stop-end (c .before .before .before .loop .inv) (c .before .before .element-head .ensures .0) (c .before .before .element-head .ensures .1) _ (c .enum-told .given .1)
 
--- src/lib.rt:50:25
 enum-known-h-2 : tie.Need-enum-known-h-2 Inv-loop μ-loop
 enum-known-h-2 c = search needs
 
--- src/lib.rt:51:17
 met-requires : tie.Need-met-requires Inv-loop μ-loop
 met-requires c κs = search needs
 
--- src/lib.rt:53:23
 add-low : tie.Need-add-low Inv-loop μ-loop
 add-low c =
     let v : Inside (c .before .before .before .before .before .loop .at) (length (c .before .before .before .before .before .before .before .args .s .now)) (Plain (c .before .before .h2 .given .0 .0) (c .before .before .h2 .given .0 .1 .0) (c .before .before .h2 .given .0 .1 .1 .0) (c .before .before .h2 .given .0 .1 .1 .1 .0)) = rw (c .before .before .h2 .given .1) at (c .before .before .before .before .element-head .ensures .1) in
     omega arith
 
--- src/lib.rt:45:5
 loop-less : tie.Need-loop-less Inv-loop μ-loop
 loop-less c =
     let v : Inside (c .before .before .before .before .before .loop .at) (length (c .before .before .before .before .before .before .before .args .s .now)) (Plain (c .before .before .h2 .given .0 .0) (c .before .before .h2 .given .0 .1 .0) (c .before .before .h2 .given .0 .1 .1 .0) (c .before .before .h2 .given .0 .1 .1 .1 .0)) = rw (c .before .before .h2 .given .1) at (c .before .before .before .before .element-head .ensures .1) in
     omega arith
 
--- src/lib.rt:45:5
 loop-again : tie.Need-loop-again Inv-loop μ-loop
 loop-again c = go-plain (c .before .before .before .before .before .loop .inv) (c .before .before .before .before .element-head .ensures .0) (c .before .before .before .before .element-head .ensures .1) _ _ _ _ (c .before .before .h2 .given .1) (c .met .ensures)
 
--- src/lib.rt:55:23
 enum-known-h-3 : tie.Need-enum-known-h-3 Inv-loop μ-loop
 enum-known-h-3 c = search needs
 
--- src/lib.rt:56:21
 sequence-requires : tie.Need-sequence-requires Inv-loop μ-loop
 sequence-requires c κs =
     let v : Inside (c .before .before .before .before .loop .at) (length (c .before .before .before .before .before .before .args .s .now)) (Seq (c .before .h3 .given .0 .0) (c .before .h3 .given .0 .1 .0) (c .before .h3 .given .0 .1 .1 .0) (c .before .h3 .given .0 .1 .1 .1 .0)) = rw (c .before .h3 .given .1) at (c .before .before .before .element-head .ensures .1) in
     omega arith
 
--- src/lib.rt:58:34
 enum-known-q : tie.Need-enum-known-q Inv-loop μ-loop
 enum-known-q c = search needs
 
--- src/lib.rt:58:43
 returns-3 : tie.Need-returns-3 Inv-loop μ-loop
 returns-3 c = stop-seq (c .before .before .before .before .before .before .before .before .loop .inv) (c .before .before .before .before .before .before .before .element-head .ensures .0) (c .before .before .before .before .before .before .before .element-head .ensures .1) (c .before .before .before .before .before .h3 .given .1) (c .before .before .before .sequence .ensures) _ _ (c .before .q .given .1)
 
--- src/lib.rt:59:33
 enum-known-q-2 : tie.Need-enum-known-q-2 Inv-loop μ-loop
 enum-known-q-2 c = search needs
 
--- src/lib.rt:60:25
 met-requires-2 : tie.Need-met-requires-2 Inv-loop μ-loop
 met-requires-2 c κs = search needs
 
--- src/lib.rt:62:31
 add-low-2 : tie.Need-add-low-2 Inv-loop μ-loop
 add-low-2 c =
     let v : Inside (c .before .before .before .before .before .before .before .before .before .loop .at) (length (c .before .before .before .before .before .before .before .before .before .before .before .args .s .now)) (Seq (c .before .before .before .before .before .before .h3 .given .0 .0) (c .before .before .before .before .before .before .h3 .given .0 .1 .0) (c .before .before .before .before .before .before .h3 .given .0 .1 .1 .0) (c .before .before .before .before .before .before .h3 .given .0 .1 .1 .1 .0)) = rw (c .before .before .before .before .before .before .h3 .given .1) at (c .before .before .before .before .before .before .before .before .element-head .ensures .1) in
     omega arith
 
--- src/lib.rt:45:5
 loop-less-2 : tie.Need-loop-less-2 Inv-loop μ-loop
 loop-less-2 c =
     let v : Inside (c .before .before .before .before .before .before .before .before .before .loop .at) (length (c .before .before .before .before .before .before .before .before .before .before .before .args .s .now)) (Seq (c .before .before .before .before .before .before .h3 .given .0 .0) (c .before .before .before .before .before .before .h3 .given .0 .1 .0) (c .before .before .before .before .before .before .h3 .given .0 .1 .1 .0) (c .before .before .before .before .before .before .h3 .given .0 .1 .1 .1 .0)) = rw (c .before .before .before .before .before .before .h3 .given .1) at (c .before .before .before .before .before .before .before .before .element-head .ensures .1) in
     omega (arith, (rw (c .before .before .q2 .given .1) at (c .before .before .before .before .sequence .ensures .stays)) .0)
 
--- src/lib.rt:45:5
 loop-again-2 : tie.Need-loop-again-2 Inv-loop μ-loop
 loop-again-2 c = go-seq (c .before .before .before .before .before .before .before .before .before .loop .inv) (c .before .before .before .before .before .before .before .before .element-head .ensures .0) (c .before .before .before .before .before .before .before .before .element-head .ensures .1) (c .before .before .before .before .before .before .h3 .given .1) (c .before .before .before .before .sequence .ensures) _ (c .before .before .q2 .given .1) (c .met2 .ensures)
 

@@ -1,3 +1,4 @@
+-- `view::view` meets its contract. Assumes nothing.
 use mathlib.Core.Path.{_≡_, refl, sym, _∙_}
 use Rattle.basis.proofs.PartsLaws.{is-part}
 use native.Mathlib.Omega.{arith}
@@ -8,71 +9,54 @@ use Rattle.view.proofs.view.Reads as reads
 use Rattle.view.proofs.view.Lts as lts
 use Rattle.view.proofs.answer_to.Reads as answer-to-reads
 
--- src/lib.rt:90:9
 answer-to-requires : tie.Need-answer-to-requires
 answer-to-requires c κs = search needs
 
--- src/lib.rt:92:23
 enum-known-a : tie.Need-enum-known-a
 enum-known-a c = search needs
 
--- src/lib.rt:94:13
 sub-result : tie.Need-sub-result
 sub-result c = (rw (c .before .a .given .1) at (c .before .before .before .answer-to .ensures .1)) .0
 
--- src/lib.rt:94:13
 part-result-start : tie.Need-part-result-start
 part-result-start c = (rw (c .before .a .given .1) at (c .before .before .before .answer-to .ensures .1)) .0
 
--- src/lib.rt:94:13
 part-result-end : tie.Need-part-result-end
 part-result-end c = (rw (c .before .a .given .1) at (c .before .before .before .answer-to .ensures .1)) .1
 
--- src/lib.rt:96:27
 enum-told : tie.Need-enum-told
 enum-told c = search needs
 
--- src/lib.rt:96:27
 sub-result-2 : tie.Need-sub-result-2
 sub-result-2 c = search needs
 
--- src/lib.rt:96:27
 part-result-start-2 : tie.Need-part-result-start-2
 part-result-start-2 c = search needs
 
--- src/lib.rt:96:27
 part-result-end-2 : tie.Need-part-result-end-2
 part-result-end-2 c = search needs
 
--- src/lib.rt:97:25
 enum-known-a-2 : tie.Need-enum-known-a-2
 enum-known-a-2 c = search needs
 
--- src/lib.rt:98:24
 cast-refusal : tie.Need-cast-refusal
 cast-refusal c = search needs
 
--- src/lib.rt:100:13
 sub-result-3 : tie.Need-sub-result-3
 sub-result-3 c = search needs
 
--- src/lib.rt:100:13
 part-result-start-3 : tie.Need-part-result-start-3
 part-result-start-3 c = search needs
 
--- src/lib.rt:100:13
 part-result-end-3 : tie.Need-part-result-end-3
 part-result-end-3 c = search needs
 
--- src/lib.rt:81:1
 returns : tie.Need-returns
 returns c = rw (sym (c .before .before .before .before .answer-to .ensures .0) ∙ c .before .before .a .given .1) (is-part _ _ _ _, (refl, (refl, refl)))
 
--- src/lib.rt:81:1
 returns-2 : tie.Need-returns-2
 returns-2 c = rw (sym (c .before .before .before .answer-to .ensures .0) ∙ c .before .enum-told .given .1) (is-part _ 0 0 _, (refl, (refl, refl)))
 
--- src/lib.rt:81:1
 returns-3 : tie.Need-returns-3
 returns-3 c = rw (sym (c .before .before .before .before .answer-to .ensures .0) ∙ c .before .before .a2 .given .1) (is-part _ 0 0 _, (refl, (refl, refl)))
 

@@ -16,47 +16,36 @@ Inv-loop kind text at₀ at = at ≤ length text
 abbrev μ-loop : tie.MeasureT-loop
 μ-loop kind text at₀ at = length text - at
 
--- src/cases.rt:64:5
 loop-holds : tie.Need-loop-holds Inv-loop μ-loop
 loop-holds c = search needs
 
--- src/cases.rt:65:13
 find-requires : tie.Need-find-requires Inv-loop μ-loop
 find-requires c κs = search needs
 
--- src/cases.rt:66:19
 sub-one : tie.Need-sub-one Inv-loop μ-loop
 sub-one c = search needs
 
--- src/cases.rt:66:19
 part-one-start : tie.Need-part-one-start Inv-loop μ-loop
 part-one-start c = search needs
 
--- src/cases.rt:66:19
 part-one-end : tie.Need-part-one-end Inv-loop μ-loop
 part-one-end c = search needs
 
--- src/cases.rt:66:9
 one-requires : tie.Need-one-requires Inv-loop μ-loop
 one-requires c κs = search needs
 
--- src/cases.rt:68:13
 returns : tie.Need-returns Inv-loop μ-loop
 returns c = search needs
 
--- src/cases.rt:70:14
 add-at : tie.Need-add-at Inv-loop μ-loop
 add-at c = search needs
 
--- src/cases.rt:64:5
 loop-less : tie.Need-loop-less Inv-loop μ-loop
 loop-less c = search needs
 
--- src/cases.rt:64:5
 loop-again : tie.Need-loop-again Inv-loop μ-loop
 loop-again c = search needs
 
--- src/cases.rt:62:1
 returns-2 : tie.Need-returns-2 Inv-loop μ-loop
 returns-2 c = search needs
 

@@ -9,35 +9,27 @@ use Rattle.rules.proofs.choices.date_word.Lts as lts
 use Rattle.options.proofs.put_date_word.Reads as put-date-word-reads
 use Rattle.rules.proofs.report.text.Reads as text-reads
 
--- src/choices.rt:54:45
 slice-aggregate-put-date-word : tie.Need-slice-aggregate-put-date-word
 slice-aggregate-put-date-word c = search needs
 
--- src/choices.rt:54:9
 put-date-word-requires : tie.Need-put-date-word-requires
 put-date-word-requires c κs = omega (arith, dateWord-length (c .before .args .number) .1)
 
--- src/choices.rt:56:22
 sub-text : tie.Need-sub-text
 sub-text c = search needs
 
--- src/choices.rt:56:22
 part-text-start : tie.Need-part-text-start
 part-text-start c = search needs
 
--- src/choices.rt:56:22
 part-text-end : tie.Need-part-text-end
 part-text-end c = search needs
 
--- src/choices.rt:56:9
 text-requires : tie.Need-text-requires
 text-requires c κs = search needs
 
--- src/choices.rt:52:1
 returns : tie.Need-returns
 returns c = search needs
 
--- src/choices.rt:52:1
 returns-2 : tie.Need-returns-2
 returns-2 c = search needs
 

@@ -9,35 +9,27 @@ use Rattle.rules.proofs.choices.meaning.Lts as lts
 use Rattle.options.proofs.Opt.put_meaning.Reads as put-meaning-reads
 use Rattle.rules.proofs.report.text.Reads as text-reads
 
--- src/choices.rt:30:28
 slice-aggregate-put-meaning : tie.Need-slice-aggregate-put-meaning
 slice-aggregate-put-meaning c = search needs
 
--- src/choices.rt:30:9
 put-meaning-requires : tie.Need-put-meaning-requires
 put-meaning-requires c κs = omega (arith, meaningOf-length (c .before .args .o) .1)
 
--- src/choices.rt:32:22
 sub-text : tie.Need-sub-text
 sub-text c = search needs
 
--- src/choices.rt:32:22
 part-text-start : tie.Need-part-text-start
 part-text-start c = search needs
 
--- src/choices.rt:32:22
 part-text-end : tie.Need-part-text-end
 part-text-end c = search needs
 
--- src/choices.rt:32:9
 text-requires : tie.Need-text-requires
 text-requires c κs = search needs
 
--- src/choices.rt:28:1
 returns : tie.Need-returns
 returns c = search needs
 
--- src/choices.rt:28:1
 returns-2 : tie.Need-returns-2
 returns-2 c = search needs
 

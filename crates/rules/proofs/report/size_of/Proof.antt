@@ -8,31 +8,25 @@ use Rattle.rules.proofs.report.size_of.Tie as tie
 use Rattle.rules.proofs.report.size_of.Reads as reads
 use Rattle.rules.proofs.report.size_of.Lts as lts
 
--- src/report.rt:27:20
 sub-less : tie.Need-sub-less
 sub-less c = let n = is-neg _ (c .before .fits .n) (c .if1 .taken) in rw (n .1, there (negsuc (n .0)) (n .2), minus) (record { sfits = n .2 })
 
--- src/report.rt:28:16
 cast-result : tie.Need-cast-result
 cast-result c =
     let n = is-neg _ (c .before .fits .n) (c .if1 .taken) in
     rw (n .1, there (negsuc (n .0)) (n .2), minus, there (pos (n .0)) (n .2)) (tt, omega arith)
 
--- src/report.rt:28:16
 add-result : tie.Need-add-result
 add-result c =
     let n = is-neg _ (c .before .fits .n) (c .if1 .taken) in
     rw (n .1, there (negsuc (n .0)) (n .2), minus, there (pos (n .0)) (n .2)) (omega arith)
 
--- src/report.rt:28:9
 returns : tie.Need-returns
 returns c = search needs
 
--- src/report.rt:30:5
 cast-result-2 : tie.Need-cast-result-2
 cast-result-2 c = let n = is-pos _ (c .before .fits .n) (c .if1 .left) in rw (n .1, there (pos (n .0)) (n .2)) (tt, omega arith)
 
--- src/report.rt:25:1
 returns-2 : tie.Need-returns-2
 returns-2 c = search needs
 

@@ -7,11 +7,9 @@ use Rattle.rules.proofs.report.wide.Tie as tie
 use Rattle.rules.proofs.report.wide.Reads as reads
 use Rattle.rules.proofs.report.wide.Lts as lts
 
--- src/report.rt:41:5
 cast-result : tie.Need-cast-result
 cast-result c = rw (toZ-ofZ (c .fits .days)) (let h = c .fits .days .sfits in record { sfits = omega (arith, h) })
 
--- src/report.rt:40:1
 returns : tie.Need-returns
 returns c = search needs
 

@@ -19,63 +19,48 @@ Inv-loop name uids lent₀ used count₀ at₀ lent count at = (at ≤ length ui
 abbrev μ-loop : tie.MeasureT-loop
 μ-loop name uids lent₀ used count₀ at₀ lent count at = length uids - at
 
--- src/slots.rt:82:5
 loop-holds : tie.Need-loop-holds Inv-loop μ-loop
 loop-holds c = search needs
 
--- src/slots.rt:83:13
 find-requires : tie.Need-find-requires Inv-loop μ-loop
 find-requires c κs = search needs
 
--- src/slots.rt:84:9
 text-requires : tie.Need-text-requires Inv-loop μ-loop
 text-requires c κs = search needs
 
--- src/slots.rt:85:21
 sub-ask : tie.Need-sub-ask Inv-loop μ-loop
 sub-ask c = search needs
 
--- src/slots.rt:85:21
 part-ask-start : tie.Need-part-ask-start Inv-loop μ-loop
 part-ask-start c = search needs
 
--- src/slots.rt:85:21
 part-ask-end : tie.Need-part-ask-end Inv-loop μ-loop
 part-ask-end c = search needs
 
--- src/slots.rt:85:9
 ask-requires : tie.Need-ask-requires Inv-loop μ-loop
 ask-requires c κs = search needs
 
--- src/slots.rt:86:9
 end-requires : tie.Need-end-requires Inv-loop μ-loop
 end-requires c κs = search needs
 
--- src/slots.rt:88:13
 same-length : tie.Need-same-length Inv-loop μ-loop
 same-length c = search needs
 
--- src/slots.rt:88:13
 returns : tie.Need-returns Inv-loop μ-loop
 returns c = search needs
 
--- src/slots.rt:90:14
 add-at : tie.Need-add-at Inv-loop μ-loop
 add-at c = search needs
 
--- src/slots.rt:82:5
 loop-less : tie.Need-loop-less Inv-loop μ-loop
 loop-less c = search needs
 
--- src/slots.rt:82:5
 loop-again : tie.Need-loop-again Inv-loop μ-loop
 loop-again c = search needs
 
--- src/slots.rt:77:1
 same-length-2 : tie.Need-same-length-2 Inv-loop μ-loop
 same-length-2 c = search needs
 
--- src/slots.rt:77:1
 returns-2 : tie.Need-returns-2 Inv-loop μ-loop
 returns-2 c = search needs
 

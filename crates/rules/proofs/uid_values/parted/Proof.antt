@@ -16,39 +16,30 @@ Inv-loop out₀ n i₀ out i = (i ≤ n) × (length out ≡ length out₀)
 abbrev μ-loop : tie.MeasureT-loop
 μ-loop out₀ n i₀ out i = n - i
 
--- src/uid_values.rt:61:5
 loop-holds : tie.Need-loop-holds Inv-loop μ-loop
 loop-holds c = search needs
 
--- src/uid_values.rt:62:26
 mul-put : tie.Need-mul-put Inv-loop μ-loop
 mul-put c = search needs
 
--- src/uid_values.rt:62:26
 add-put : tie.Need-add-put Inv-loop μ-loop
 add-put c = search needs
 
--- src/uid_values.rt:62:9
 put-requires : tie.Need-put-requires Inv-loop μ-loop
 put-requires c κs = search needs
 
--- src/uid_values.rt:63:9
 add-i : tie.Need-add-i Inv-loop μ-loop
 add-i c = search needs
 
--- src/uid_values.rt:61:5
 loop-less : tie.Need-loop-less Inv-loop μ-loop
 loop-less c = search needs
 
--- src/uid_values.rt:61:5
 loop-again : tie.Need-loop-again Inv-loop μ-loop
 loop-again c = search needs
 
--- src/uid_values.rt:56:1
 same-length : tie.Need-same-length Inv-loop μ-loop
 same-length c = search needs
 
--- src/uid_values.rt:56:1
 returns : tie.Need-returns Inv-loop μ-loop
 returns c = search needs
 

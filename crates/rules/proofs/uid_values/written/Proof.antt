@@ -9,45 +9,35 @@ use Rattle.rules.proofs.uid_values.written.Lts as lts
 use Rattle.rules.proofs.report.counted.Reads as counted-reads
 use Rattle.uid.proofs.put_uid.Reads as put-uid-reads
 
--- src/uid_values.rt:87:9
 returns : tie.Need-returns
 returns c = search needs
 
--- src/uid_values.rt:90:9
 returns-2 : tie.Need-returns-2
 returns-2 c = search needs
 
--- src/uid_values.rt:93:36
 slice-aggregate-put-uid : tie.Need-slice-aggregate-put-uid
 slice-aggregate-put-uid c = search needs
 
--- src/uid_values.rt:93:9
 put-uid-requires : tie.Need-put-uid-requires
 put-uid-requires c κs =
     let start = c .before .before .before .before in
     omega (arith, length-newUid (start .args .root .now) (start .args .n), decimal-short 3 (start .args .n) (omega arith))
 
--- src/uid_values.rt:95:25
 sub-counted : tie.Need-sub-counted
 sub-counted c = search needs
 
--- src/uid_values.rt:95:25
 part-counted-start : tie.Need-part-counted-start
 part-counted-start c = search needs
 
--- src/uid_values.rt:95:25
 part-counted-end : tie.Need-part-counted-end
 part-counted-end c = search needs
 
--- src/uid_values.rt:95:9
 counted-requires : tie.Need-counted-requires
 counted-requires c κs = search needs
 
--- src/uid_values.rt:85:1
 returns-3 : tie.Need-returns-3
 returns-3 c = search needs
 
--- src/uid_values.rt:85:1
 returns-4 : tie.Need-returns-4
 returns-4 c = search needs
 

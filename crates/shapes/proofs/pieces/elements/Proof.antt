@@ -16,35 +16,27 @@ Inv-loop out₀ n p₀ i₀ out p i = (i ≤ n) × (length out ≡ length out₀
 abbrev μ-loop : tie.MeasureT-loop
 μ-loop out₀ n p₀ i₀ out p i = n - i
 
--- src/pieces.rt:115:5
 loop-holds : tie.Need-loop-holds Inv-loop μ-loop
 loop-holds c = search needs
 
--- src/pieces.rt:116:29
 add-element : tie.Need-add-element Inv-loop μ-loop
 add-element c = search needs
 
--- src/pieces.rt:116:9
 element-requires : tie.Need-element-requires Inv-loop μ-loop
 element-requires c κs = search needs
 
--- src/pieces.rt:117:9
 add-i : tie.Need-add-i Inv-loop μ-loop
 add-i c = search needs
 
--- src/pieces.rt:115:5
 loop-less : tie.Need-loop-less Inv-loop μ-loop
 loop-less c = search needs
 
--- src/pieces.rt:115:5
 loop-again : tie.Need-loop-again Inv-loop μ-loop
 loop-again c = search needs
 
--- src/pieces.rt:109:1
 same-length : tie.Need-same-length Inv-loop μ-loop
 same-length c = search needs
 
--- src/pieces.rt:109:1
 returns : tie.Need-returns Inv-loop μ-loop
 returns c = search needs
 

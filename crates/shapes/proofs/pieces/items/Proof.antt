@@ -17,35 +17,27 @@ Inv-loop out₀ pos n p₀ i₀ out p i = (i ≤ n) × (length out ≡ length ou
 abbrev μ-loop : tie.MeasureT-loop
 μ-loop out₀ pos n p₀ i₀ out p i = n - i
 
--- src/pieces.rt:128:5
 loop-holds : tie.Need-loop-holds Inv-loop μ-loop
 loop-holds c = search needs
 
--- src/pieces.rt:129:9
 item-requires : tie.Need-item-requires Inv-loop μ-loop
 item-requires c κs = search needs
 
--- src/pieces.rt:130:9
 item-end-requires : tie.Need-item-end-requires Inv-loop μ-loop
 item-end-requires c κs = search needs
 
--- src/pieces.rt:131:9
 add-i : tie.Need-add-i Inv-loop μ-loop
 add-i c = search needs
 
--- src/pieces.rt:128:5
 loop-less : tie.Need-loop-less Inv-loop μ-loop
 loop-less c = search needs
 
--- src/pieces.rt:128:5
 loop-again : tie.Need-loop-again Inv-loop μ-loop
 loop-again c = search needs
 
--- src/pieces.rt:123:1
 same-length : tie.Need-same-length Inv-loop μ-loop
 same-length c = search needs
 
--- src/pieces.rt:123:1
 returns : tie.Need-returns Inv-loop μ-loop
 returns c = search needs
 

@@ -17,59 +17,45 @@ Inv-loop out₀ n p₀ i₀ out p i = (i ≤ n) × (length out ≡ length out₀
 abbrev μ-loop : tie.MeasureT-loop
 μ-loop out₀ n p₀ i₀ out p i = n - i
 
--- src/pieces.rt:102:5
 loop-holds : tie.Need-loop-holds Inv-loop μ-loop
 loop-holds c = search needs
 
--- src/pieces.rt:103:49
 sub-sequence : tie.Need-sub-sequence Inv-loop μ-loop
 sub-sequence c = search needs
 
--- src/pieces.rt:103:43
 mul-sequence : tie.Need-mul-sequence Inv-loop μ-loop
 mul-sequence c = search needs
 
--- src/pieces.rt:103:43
 sub-sequence-2 : tie.Need-sub-sequence-2 Inv-loop μ-loop
 sub-sequence-2 c = search needs
 
--- src/pieces.rt:103:9
 sequence-requires : tie.Need-sequence-requires Inv-loop μ-loop
 sequence-requires c κs = search needs
 
--- src/pieces.rt:104:32
 sub-item : tie.Need-sub-item Inv-loop μ-loop
 sub-item c = search needs
 
--- src/pieces.rt:104:26
 mul-item : tie.Need-mul-item Inv-loop μ-loop
 mul-item c = search needs
 
--- src/pieces.rt:104:26
 sub-item-2 : tie.Need-sub-item-2 Inv-loop μ-loop
 sub-item-2 c = search needs
 
--- src/pieces.rt:104:9
 item-requires : tie.Need-item-requires Inv-loop μ-loop
 item-requires c κs = search needs
 
--- src/pieces.rt:105:9
 add-i : tie.Need-add-i Inv-loop μ-loop
 add-i c = search needs
 
--- src/pieces.rt:102:5
 loop-less : tie.Need-loop-less Inv-loop μ-loop
 loop-less c = search needs
 
--- src/pieces.rt:102:5
 loop-again : tie.Need-loop-again Inv-loop μ-loop
 loop-again c = search needs
 
--- src/pieces.rt:96:1
 same-length : tie.Need-same-length Inv-loop μ-loop
 same-length c = search needs
 
--- src/pieces.rt:96:1
 returns : tie.Need-returns Inv-loop μ-loop
 returns c = search needs
 
