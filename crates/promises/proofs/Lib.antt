@@ -1,3 +1,13 @@
+pub mod ReportLaws
+pub mod Demand1Proof
+pub mod TreatedProof
+pub mod TreatedCases
+pub mod TreatedOne
+pub mod MarkersProof
+pub mod LedgerProof
+pub mod Demand2Proof
+pub mod Demand2One
+pub mod WrongStations
 pub mod Demand3Proof
 pub mod Witness
 pub mod OneOutcome

@@ -1,1 +1,6 @@
+pub mod Demand1
+pub mod Treated
+pub mod Markers
+pub mod LedgerAfter
+pub mod Demand2
 pub mod Demand3

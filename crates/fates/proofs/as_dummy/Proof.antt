@@ -1,0 +1,13 @@
+-- `fates::as_dummy` meets its contract. Assumes nothing.
+use borrow.Author.Tests.{eq-eqb, ne-eqb}
+use Rattle.fates.proofs.as_dummy.Statement.{statement}
+use Rattle.fates.proofs.as_dummy.Tie as tie
+
+returns : tie.Need-returns
+returns c = simp (eq-eqb _ _ (c .if1 .taken))
+
+returns-2 : tie.Need-returns-2
+returns-2 c = simp (ne-eqb _ _ (c .if1 .left))
+
+pub as-dummy-spec : {M : Type 1} → statement M
+as-dummy-spec = tie.close (tie.spec returns returns-2)

@@ -1,0 +1,5 @@
+pub mod WriteLaws
+pub mod GainsLaws
+pub mod StepLaws
+pub mod PartLaws
+pub mod PutLaws

@@ -1,0 +1,70 @@
+-- The customer's second demand. What a run writes is what Annex E orders, as document 01 reads it: at every depth, what is marked goes or
+-- is replaced, what is to be kept survives byte for byte, UIDs are renamed consistently, and the written length, the four counts and the
+-- ledger are the ones defined there. The data set that came in and the one that goes out stand in the relations of `Treated.antt`,
+-- `Markers.antt` and `LedgerAfter.antt`, which are to be held against document 01. Proof: `proofs/Demand2Proof.antt`. That the
+-- relations allow one outcome only: `proofs/Demand2One.antt`. Assumes nothing.
+--     NoneRemoved ds options top     no element whose action is X on its level stands in ds, at any depth
+--     Exports i r out l              a run that was handed i, reports r, and leaves the output out and the ledger l, has exported rightly
+--     Demand2                        the demand
+use mathlib.Core.Path.{_≡_}
+use mathlib.Core.Logic.{_≢_}
+use mathlib.Core.Bool.{Bool, true, false}
+use mathlib.Core.List.{List, _++_}
+use Prim.Native.Nat.{ℕ, suc, _-_, _≤_}
+use lib.ListN.{length, take, replicate}
+use Rattle.basis.specs.Bytes.{AllBytes}
+use Rattle.layout.specs.Limits.{deepest}
+use Rattle.layout.specs.Tree.{Field, value, items, nil, elem, Items, none as noItem, item, Data, bare}
+use Rattle.layout.specs.Read.{good, with, read}
+use Rattle.layout.specs.Write.{bytesOf}
+use Rattle.layout.specs.Made.{Made}
+use Rattle.table.specs.Action.{actionOf}
+use Rattle.table.specs.declared.Action.the-variants.{Remove}
+use Rattle.answer.specs.Input.{Input}
+use Rattle.answer.specs.Answer.{Report, done, answer, reportOf, outputOf, ledgerOf}
+use Rattle.promises.specs.Treated.{Treated}
+use Rattle.promises.specs.Markers.{GainsMarkers}
+use Rattle.promises.specs.LedgerAfter.{LedgerAfter}
+
+unfoldable mutual
+  pub NoneRemovedField : Field (Unit {0}) → ℕ → Type 0
+  NoneRemovedField (value v) options = Unit {0}
+  NoneRemovedField (items is) options = NoneRemovedItems is options
+
+  pub NoneRemoved : Data → ℕ → Bool → Type 0
+  NoneRemoved nil options top = Unit {0}
+  NoneRemoved (elem l tag vr f ds) options top = (actionOf options top tag ≢ Remove) × NoneRemovedField f options × NoneRemoved ds options top
+
+  pub NoneRemovedItems : Items (Unit {0}) → ℕ → Type 0
+  NoneRemovedItems noItem options = Unit {0}
+  NoneRemovedItems (item ds is) options = NoneRemoved ds options false × NoneRemovedItems is options
+
+pub record Exports (i : Input) (r : Report) (out l : List ℕ) : Type 0 where
+  -- the data set that came in
+  pub came : Data
+  pub past : ℕ
+  pub reads : with bare (read deepest (i .lent)) ≡ good came past
+  -- what is left of it, the UIDs that were renamed in output order, and the number of each
+  pub left : Data
+  pub uids : List (List ℕ)
+  pub number : List ℕ → ℕ
+  pub treated : Treated (i .settings) number true came left (r .counts) uids
+  pub none-removed : NoneRemoved left (i .settings .options) true
+  -- the data set that goes out: what is left, and the markers
+  pub goes : Data
+  pub marked : GainsMarkers (i .settings .options) left goes
+  -- its tags are allowed and rise strictly on every level, values are even and fit their headers; an export may nest one deeper (W4)
+  pub made : Made (suc deepest) 0 goes
+  -- the output holds its bytes, each sequence and item in the style that document 01 orders, and then zeros to the end
+  pub length-is : r .length ≡ length (bytesOf goes)
+  pub fits : r .length ≤ i .room
+  pub output : out ≡ bytesOf goes ++ replicate (i .room - r .length) 0
+  -- and it reads back
+  pub reads-back : with bare (read (suc deepest) (take (r .length) out)) ≡ good goes (r .length)
+  pub ledger : LedgerAfter i r l uids number
+  -- no refusal
+  pub refusal-zero : r .refusal ≡ 0
+  pub offset-zero : r .offset ≡ 0
+
+abbrev pub Demand2 : Type 0
+Demand2 = (i : Input) → AllBytes (i .lent) → answer i ≡ done → Exports i (reportOf i) (outputOf i) (ledgerOf i)

@@ -1,0 +1,3 @@
+pub mod Element
+pub mod Renamed
+pub mod Steps

@@ -1,0 +1,40 @@
+-- What the steps inside `put_renamed` hand over; each is short for words of the other files. Inner contracts cite this file, no
+-- promise does. Laws: `proofs/Turns.antt`, `proofs/Whole.antt`. Assumes nothing.
+--     textOf root ks us     the new UIDs of us with backslashes between them, numbered from the names ks on
+--     Texted                the text of a value was written, where its pieces are UIDs
+--     Finished              a text that stands eight bytes on was made a whole UI element: a zero byte where its length is odd, and the header
+use mathlib.Core.Path.{_≡_}
+use mathlib.Core.Bool.{true}
+use mathlib.Core.List.{List, _++_, map}
+use Prim.Native.Nat.{ℕ, _+_, _-_, _*_, _≤_}
+use lib.ListN.{length, take}
+use Rattle.basis.specs.Bytes.{part}
+use Rattle.basis.specs.Pieces.{pieces, joined}
+use Rattle.buffer.specs.Buffer.{laid}
+use Rattle.vr.specs.Names.{UI}
+use Rattle.layout.specs.Tree.{value}
+use Rattle.uid.specs.Uid.{all, isUid}
+use Rattle.uid.specs.Value.{padOf}
+use Rattle.uid.specs.NewUid.{newUid}
+use Rattle.ledger.specs.Names.{numbers, sameName}
+use Rattle.ledger.specs.Slots.{slotSize, slotsOf, slotOf, slotsIn}
+use Rattle.put.specs.Element.{elementBytes}
+use Rattle.put.specs.Renamed.{namesAfter, Outcome, Bounds}
+use Rattle.put.specs.declared.Renamed.{Renamed}
+
+abbrev pub textOf : List ℕ → List (List ℕ) → List (List ℕ) → List ℕ
+textOf root ks us = joined (map (newUid root) (numbers sameName ks (map slotOf us)))
+
+pub record Texted (s : List ℕ) (from stop : ℕ) (root l l′ : List ℕ) (used : ℕ) (o o′ : List ℕ) (pos : ℕ) (r : Renamed) : Type 0 where
+  pub out-size : length o′ ≡ length o
+  pub ledger-size : length l′ ≡ length l
+  pub kept : take (slotSize * used) l′ ≡ take (slotSize * used) l
+  pub bounds : Bounds pos (66 * (stop - from + 1)) used (slotsOf l) r
+  pub right : all isUid (pieces (part s from stop)) ≡ true
+      → Outcome o o′ pos (textOf root (slotsIn l used) (pieces (part s from stop))) l l′ (namesAfter l used (pieces (part s from stop))) r
+
+pub record Finished (o o′ : List ℕ) (tag pos p r : ℕ) : Type 0 where
+  pub out-size : length o′ ≡ length o
+  pub upto : (p ≤ r) × (r ≤ p + 1)
+  pub whole : (o₀ text : List ℕ) → o ≡ laid o₀ (pos + 8) text → p ≡ pos + 8 + length text
+      → (r ≡ pos + length (elementBytes tag UI (value (text ++ padOf text)))) × (o′ ≡ laid o₀ pos (elementBytes tag UI (value (text ++ padOf text))))

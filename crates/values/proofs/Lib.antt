@@ -1,0 +1,3 @@
+pub mod Trace
+pub mod ValueLaws
+pub mod JudgeLaws
