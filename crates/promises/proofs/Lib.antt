@@ -11,3 +11,5 @@ pub mod WrongStations
 pub mod Demand3Proof
 pub mod Witness
 pub mod OneOutcome
+pub mod RunningProof
+pub mod RunningBatches

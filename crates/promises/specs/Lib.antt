@@ -4,3 +4,4 @@ pub mod Markers
 pub mod LedgerAfter
 pub mod Demand2
 pub mod Demand3
+pub mod Running

@@ -1,0 +1,91 @@
+-- The three demands for the running code. They are stated over the contract of `station::deidentify` as its source has it (`Learnt` of the
+-- reading that the kit makes of the source), so that a weakened `ensures` there is refused here. That a call comes to an end is what a proved
+-- contract says. Proofs: `proofs/RunningProof.antt`, `proofs/RunningBatches.antt`. Assumes nothing.
+--     Lent              what a call of the station is lent and handed
+--     input x           the same in the words of crate `answer`
+--     Runs x r l o      a call may answer r, and leave the ledger l and the output o
+--     outcome r         the refusal that the answer r says, or that it is done
+--     RunningDemand1    whatever a call is lent: it answers rightly
+--     RunningDemand2    where it is done, it has exported rightly
+--     RanBy s l n xs outs    the data sets xs were run in order by calls of the station under the settings s, from the ledger l with n entries in
+--                       use; each was accepted and was handed the ledger and the count that the one before it left; outs is what they left
+--     RunningDemand3    the outputs of two batches are equal exactly when their kept contents are, up to one renaming
+use mathlib.Core.Path.{_≡_}
+use mathlib.Core.Logic.{_↔_}
+use mathlib.Core.List.{List, [], _∷_, map}
+use Prim.Native.Nat.{ℕ}
+use lib.IntN.{ℤ}
+use lib.ListN.{length, take}
+use contract.Lifetimes.{Lfts}
+use denote.Ref.{RefT, now}
+use Rattle.basis.specs.Bytes.{AllBytes}
+use Rattle.kept.specs.Settings.{Settings}
+use Rattle.kept.specs.Renaming.{OneRenaming}
+use Rattle.answer.specs.Input.{Input}
+use Rattle.answer.specs.Answer.{Outcome, refused, done}
+use Rattle.station.specs.Entry.{inputOf, report}
+use Rattle.station.specs.declared.Outcome.{Outcome as Answer}
+use Rattle.station.specs.declared.Outcome.the-variants.{Refused, Done}
+use Rattle.station.proofs.deidentify.Reads as station
+use Rattle.promises.specs.Demand1.{Answers}
+use Rattle.promises.specs.Demand2.{Exports}
+use Rattle.promises.specs.Demand3.{contentOf}
+
+-- the data set, the settings, the ledger with its count in use, and the output buffer
+pub record Lent : Type 0 where
+  pub lifetimes : Lfts 5
+  pub lent : RefT (List ℕ)
+  pub options : ℕ
+  pub shift : ℤ
+  pub root : RefT (List ℕ)
+  pub study : RefT (List ℕ)
+  pub site : RefT (List ℕ)
+  pub ledger : RefT (List ℕ)
+  pub used : ℕ
+  pub out : RefT (List ℕ)
+
+abbrev pub input : Lent → Input
+input x =
+    inputOf (now (x .lent)) (x .options) (x .shift) (now (x .root)) (now (x .study)) (now (x .site)) (now (x .ledger)) (x .used) (length (now (x .out)))
+
+abbrev pub Runs : Lent → Answer → RefT (List ℕ) → RefT (List ℕ) → Type 0
+Runs x r l o =
+    station.Learnt (x .lifetimes) (x .lent, (x .options, (x .shift, (x .root, (x .study, (x .site, (x .ledger, (x .used, (x .out, tt)))))))))
+    r (x .lent, (x .options, (x .shift, (x .root, (x .study, (x .site, (l, (x .used, (o, tt)))))))))
+
+abbrev pub outcome : Answer → Outcome
+outcome (Refused n o) = refused n o
+outcome (Done t) = done
+
+abbrev pub RunningDemand1 : Type 0
+RunningDemand1 = (x : Lent) (r : Answer) (l o : RefT (List ℕ)) → Runs x r l o → Answers (input x) (outcome r) (report (x .used) r) (now o) (now l)
+
+abbrev pub RunningDemand2 : Type 0
+RunningDemand2 =
+    (x : Lent) (r : Answer) (l o : RefT (List ℕ)) → Runs x r l o → AllBytes (now (x .lent)) → outcome r ≡ done
+    → Exports (input x) (report (x .used) r) (now o) (now l)
+
+-- a call that was lent the data set d, under the settings s, with the ledger l and n entries in use
+pub record Call (s : Settings) (l : List ℕ) (n : ℕ) (d : List ℕ) : Type 0 where
+  pub given : Lent
+  pub lent-is : now (given .lent) ≡ d
+  pub settings-are : input given .settings ≡ s
+  pub ledger-is : now (given .ledger) ≡ l
+  pub used-is : given .used ≡ n
+  pub bytes : AllBytes d
+  pub result : Answer
+  pub ledger : RefT (List ℕ)
+  pub out : RefT (List ℕ)
+  pub runs : Runs given result ledger out
+  pub accepted : outcome result ≡ done
+
+pub data RanBy (s : Settings) : List ℕ → ℕ → List (List ℕ) → List (List ℕ) → Type 0 where
+  none : {l : List ℕ} {n : ℕ} → RanBy s l n [] []
+  next : {l : List ℕ} {n : ℕ} {d : List ℕ} {ds outs : List (List ℕ)} (c : Call s l n d)
+      → RanBy s (now (c .ledger)) (report n (c .result) .used) ds outs
+      → RanBy s l n (d ∷ ds) (take (report n (c .result) .length) (now (c .out)) ∷ outs)
+
+abbrev pub RunningDemand3 : Type 0
+RunningDemand3 =
+    (s : Settings) (l k : List ℕ) (xs ys outs ends : List (List ℕ)) → length xs ≡ length ys → RanBy s l 0 xs outs → RanBy s k 0 ys ends
+    → (outs ≡ ends) ↔ OneRenaming (map (contentOf s) xs) (map (contentOf s) ys)

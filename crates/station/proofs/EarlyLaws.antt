@@ -1,0 +1,105 @@
+-- Laws of `early`: which number stands for what the tests say, one after the other, and what is known where no condition holds.
+-- No contract cites this file. Assumes nothing.
+--     first-1 to first-5     the number of the first condition that holds
+--     first-none             none holds
+--     NotEarly, not-early    what is known then
+--     days-are               the days of a shift that was not refused
+use mathlib.Core.Path.{_≡_, refl, sym, subst, _∙_}
+use mathlib.Core.Bool.{Bool, true, false, not, _&&_}
+use mathlib.Core.List.{List}
+use Prim.Native.Nat.{ℕ, _≤_, _<_}
+use native.Mathlib.Omega.{arith}
+use lib.Dec.{ltb}
+use lib.IntN.{ℤ, natAbs}
+use mir.Syntax.{w32}
+use mir.Val.{toZ, ofZ}
+use mir.Facts.{toZ-ofZ}
+use lib.ListN.{length}
+use borrow.Author.Tests.{lt-ltb, le-ltb, ltb-false}
+use Rattle.basis.specs.Choice.{pick}
+use Rattle.layout.specs.Limits.{longest}
+use Rattle.uid.specs.Uid.{isRoot, longestRoot}
+use Rattle.uid.proofs.UidLaws.{uidUpto-is}
+use Rattle.ledger.specs.Slots.{slotsOf}
+use Rattle.lists.specs.Lists.{listOk}
+use Rattle.options.specs.Settings.{mostShift, settingsFault}
+use Rattle.options.proofs.SettingsLaws.{settingsFault-shift}
+use Rattle.options.proofs.SignLaws.{fits-i32}
+use Rattle.station.specs.Steps.{early}
+
+not-false : (b : Bool) → not b ≡ false → b ≡ true
+not-false true e = refl
+not-false false e = sym e
+
+not-true : (b : Bool) → not b ≡ true → b ≡ false
+not-true false e = refl
+not-true true e = sym e
+
+-- each answer of a test comes with the equation that says what it is
+module _ (lent : List ℕ) (options : ℕ) (shift : ℤ) (root study site ledger : List ℕ) (used : ℕ) {a : Bool} (a-is : a ≡ settingsFault options shift) where
+  pub first-1 : a ≡ true → 1 ≡ early lent options shift root study site ledger used
+  unfolding early
+  first-1 e = rw (sym a-is ∙ e)
+
+  module _ (not-a : a ≡ false) {b : Bool} (b-is : b ≡ isRoot root) where
+    pub first-2 : not b ≡ true → 2 ≡ early lent options shift root study site ledger used
+    unfolding early
+    first-2 e = rw (sym a-is ∙ not-a, sym b-is ∙ not-true b e)
+
+    module _ (not-b : not b ≡ false) {n : ℕ} (n-is : n ≡ slotsOf ledger) where
+      pub first-3 : n < used → 3 ≡ early lent options shift root study site ledger used
+      unfolding early
+      first-3 h = rw (sym a-is ∙ not-a, sym b-is ∙ not-false b not-b, lt-ltb (slotsOf ledger) used (omega arith))
+
+      module _ (not-n : used ≤ n) {c : Bool} (c-is : c ≡ listOk study) where
+        pub first-4 : not c ≡ true → 4 ≡ early lent options shift root study site ledger used
+        unfolding early
+        first-4 e = rw (sym a-is ∙ not-a, sym b-is ∙ not-false b not-b, le-ltb (slotsOf ledger) used (omega arith), sym c-is ∙ not-true c e)
+
+        module _ (not-c : not c ≡ false) {d : Bool} (d-is : d ≡ listOk site) where
+          pub first-4′ : not d ≡ true → 4 ≡ early lent options shift root study site ledger used
+          unfolding early
+          first-4′ e =
+              rw (sym a-is ∙ not-a, sym b-is ∙ not-false b not-b, le-ltb (slotsOf ledger) used (omega arith), sym c-is ∙ not-false c not-c, sym d-is ∙ not-true d e)
+
+          module _ (not-d : not d ≡ false) where
+            by-length : early lent options shift root study site ledger used ≡ pick (ltb longest (length lent)) 5 0
+            unfolding early
+            by-length =
+                rw (sym a-is ∙ not-a, sym b-is ∙ not-false b not-b, le-ltb (slotsOf ledger) used (omega arith), sym c-is ∙ not-false c not-c, sym d-is ∙ not-false d not-d)
+
+            pub first-5 : longest < length lent → 5 ≡ early lent options shift root study site ledger used
+            first-5 h = rw (by-length, lt-ltb longest (length lent) h)
+
+            pub first-none : length lent ≤ longest → 0 ≡ early lent options shift root study site ledger used
+            first-none h = rw (by-length, le-ltb longest (length lent) h)
+
+none-of-five : (a b c d e : Bool) → _≡_ {A = ℕ} 0 (pick a 1 (pick b 2 (pick c 3 (pick d 4 (pick e 5 0))))) → (a ≡ false) × (b ≡ false) × (c ≡ false) × (e ≡ false)
+none-of-five true b c d e z = absurd (omega arith)
+none-of-five false true c d e z = absurd (omega arith)
+none-of-five false false true d e z = absurd (omega arith)
+none-of-five false false false true e z = absurd (omega arith)
+none-of-five false false false false true z = absurd (omega arith)
+none-of-five false false false false false z = (refl, refl, refl, refl)
+
+pub record NotEarly (lent : List ℕ) (shift : ℤ) (root ledger : List ℕ) (used : ℕ) : Type 0 where
+  pub days : natAbs shift ≤ mostShift
+  pub root-fits : length root ≤ longestRoot
+  pub slots : used ≤ slotsOf ledger
+  pub short : length lent ≤ longest
+
+pub not-early : (lent : List ℕ) (options : ℕ) (shift : ℤ) (root study site ledger : List ℕ) (used n : ℕ)
+    → n ≡ early lent options shift root study site ledger used → n ≡ 0 → NotEarly lent shift root ledger used
+unfolding early
+not-early lent options shift root study site ledger used n e z =
+    let f = none-of-five (settingsFault options shift) (not (isRoot root)) (ltb (slotsOf ledger) used) (not (listOk study && listOk site)) (ltb longest (length lent)) (sym z ∙ e) in
+    record {
+      days = settingsFault-shift options shift (f .0);
+      root-fits = uidUpto-is longestRoot root (not-false _ (f .1)) .upto;
+      slots = ltb-false _ _ (f .2);
+      short = ltb-false _ _ (f .3);
+    }
+
+-- the days that the walks are given are the shift's
+pub days-are : {shift shift′ d : ℤ} → shift′ ≡ shift → natAbs shift′ ≤ mostShift → d ≡ shift′ → shift ≡ toZ w32 (ofZ w32 d)
+days-are {shift} {shift′} {d} same small e = sym (toZ-ofZ (fits-i32 d mostShift (subst (λ z. natAbs z ≤ mostShift) (sym e) small) (omega arith)) ∙ e ∙ same)
