@@ -1,6 +1,3 @@
 pub mod ElementLaws
 pub mod FillerLaws
-pub mod Turns
-pub mod Whole
-pub mod AppendLaws
 pub mod Cases

@@ -39,9 +39,9 @@ use Rattle.fates.specs.Meant.{meant, levelOf}
 use Rattle.fates.specs.declared.Fate.{Fate as Fated}
 use Rattle.fates.specs.declared.Fate.the-variants.{Removed, Kept, Walked, Emptied, Dummied, Renamed, Shifted, Wrong}
 use Rattle.put.specs.Element.{elementBytes, withLists}
-use Rattle.put.specs.Renamed.{RenamedValue}
-use Rattle.put.specs.declared.Renamed.{Renamed as Renaming}
-use Rattle.put.specs.declared.Renamed.the-variants.{Full, To as Renamed-To}
+use Rattle.rename.specs.Renamed.{RenamedValue}
+use Rattle.rename.specs.declared.Renamed.{Renamed as Renaming}
+use Rattle.rename.specs.declared.Renamed.the-variants.{Full, To as Renamed-To}
 use Rattle.put.proofs.ElementLaws.{length-header, length-value}
 use Rattle.put.proofs.FillerLaws.{emptied-any, dummied-any, emptied-length, dummied-length}
 use Rattle.write.specs.Passed.{State, say, count, passedOne}
@@ -194,14 +194,14 @@ module _ {days : ℤ} {root study site : List ℕ} {tag vr : ℕ} {s : List ℕ}
 
   pub act-renamed : (p m : ℕ) → r ≡ Renamed-To p m → Wrote (ActPass days root study site renamed tag vr s from to) from to 128 1 o o′ l l′ t (To to (one-renamed t p m))
   act-renamed p m e =
-      let b : Rattle.put.specs.Renamed.Bounds (t .pos) (9 + 66 * (to - from + 1)) (t .used) (slotsOf l) (Renamed-To p m) = rw e at (q .bounds) in record {
+      let b : Rattle.rename.specs.Renamed.Bounds (t .pos) (9 + 66 * (to - from + 1)) (t .used) (slotsOf l) (Renamed-To p m) = rw e at (q .bounds) in record {
         out-size = q .out-size;
         ledger-size = q .ledger-size;
         slots-kept = q .kept;
         bounds = omega arith;
         right = λ w next st st′ a o₀ l₀ h.
             let c = renamed-case a in
-            let x : Rattle.put.specs.Renamed.Outcome o o′ (t .pos) (elementBytes tag UI (value (uidsText root (numbers sameName (st .names) (map slotOf (c .0)))))) l l′ (learns sameName (st .names) (map slotOf (c .0))) (Renamed-To p m) =
+            let x : Rattle.rename.specs.Renamed.Outcome o o′ (t .pos) (elementBytes tag UI (value (uidsText root (numbers sameName (st .names) (map slotOf (c .0)))))) l l′ (learns sameName (st .names) (map slotOf (c .0))) (Renamed-To p m) =
             rw (e, h .names-are) at (q .right (c .0) (c .1)) in (
               a .next-is,
               rw (c .2) (record {

@@ -6,7 +6,7 @@ use fates::Fate;
 use layout::Head;
 use layout::Shape;
 use layout::Spot;
-use put::Renamed;
+use rename::Renamed;
 ghost use mathlib.Core.Path.{_≡_};
 ghost use Prim.Native.Nat.{_+_, _-_, _*_, _≤_, _<_, _^_};
 ghost use lib.ListN.{length};
@@ -172,7 +172,7 @@ fn act<'a>(
             Walk::To(past, one_replaced(t, pos))
         }
         Fate::Renamed => {
-            let q = put::put_renamed(tag, s, body, past, root, ledger, t.used, out, t.pos);
+            let q = rename::put_renamed(tag, s, body, past, root, ledger, t.used, out, t.pos);
             match q {
                 Renamed::Full => Walk::Stop,
                 Renamed::To(pos, used) => Walk::To(past, one_renamed(t, pos, used)),

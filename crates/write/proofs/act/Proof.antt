@@ -10,7 +10,7 @@ use Rattle.write.proofs.act.Lts as lts
 use Rattle.put.proofs.put_dates.Reads as put-dates-reads
 use Rattle.put.proofs.put_dummied.Reads as put-dummied-reads
 use Rattle.put.proofs.put_emptied.Reads as put-emptied-reads
-use Rattle.put.proofs.put_renamed.Reads as put-renamed-reads
+use Rattle.rename.proofs.put_renamed.Reads as put-renamed-reads
 use Rattle.put.proofs.put_same.Reads as put-same-reads
 use Rattle.write.proofs.one_kept.Reads as one-kept-reads
 use Rattle.write.proofs.one_removed.Reads as one-removed-reads

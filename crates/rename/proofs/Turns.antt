@@ -34,8 +34,8 @@ use Rattle.ledger.proofs.NamesLaws.{learns-length}
 use Rattle.ledger.proofs.LaidLaws.{laid-same}
 use Rattle.ledger.proofs.SlotLaws.{slotsOf-fits, length-slotOf, flat-slotsIn, flat-learn}
 use Rattle.ledger.proofs.AnswerLaws.{Answered, Slotted, slotFor-is}
-use Rattle.put.specs.Steps.{textOf, Texted}
-use Rattle.put.specs.declared.Renamed.the-variants.{Full, To}
+use Rattle.rename.specs.Steps.{textOf, Texted}
+use Rattle.rename.specs.declared.Renamed.the-variants.{Full, To}
 
 -- ---- text and names, a piece at a time
 

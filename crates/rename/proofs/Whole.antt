@@ -32,12 +32,12 @@ use Rattle.ledger.specs.Names.{learns, numbers}
 use Rattle.ledger.specs.Slots.{slotSize, slotsOf, slotsIn, flat}
 use Rattle.ledger.proofs.LaidLaws.{laid-same}
 use Rattle.ledger.proofs.SlotLaws.{slotsOf-fits, length-slotsIn, flat-slotsIn}
 use Rattle.put.specs.Element.{elementBytes}
-use Rattle.put.specs.Renamed.{namesAfter, renamedText, renamedElement, Outcome, RenamedValue}
-use Rattle.put.specs.Steps.{textOf, Texted, Finished}
-use Rattle.put.specs.declared.Renamed.{Renamed}
-use Rattle.put.specs.declared.Renamed.the-variants.{Full, To}
+use Rattle.rename.specs.Renamed.{namesAfter, renamedText, renamedElement, Outcome, RenamedValue}
+use Rattle.rename.specs.Steps.{textOf, Texted, Finished}
+use Rattle.rename.specs.declared.Renamed.{Renamed}
+use Rattle.rename.specs.declared.Renamed.the-variants.{Full, To}
 use Rattle.put.proofs.ElementLaws.{value-bytes, length-value}
 
 -- ---- the header of a UI element
 

@@ -18,9 +18,9 @@ use Rattle.uid.specs.Value.{padOf}
 use Rattle.uid.specs.NewUid.{newUid}
 use Rattle.ledger.specs.Names.{numbers, sameName}
 use Rattle.ledger.specs.Slots.{slotSize, slotsOf, slotOf, slotsIn}
 use Rattle.put.specs.Element.{elementBytes}
-use Rattle.put.specs.Renamed.{namesAfter, Outcome, Bounds}
-use Rattle.put.specs.declared.Renamed.{Renamed}
+use Rattle.rename.specs.Renamed.{namesAfter, Outcome, Bounds}
+use Rattle.rename.specs.declared.Renamed.{Renamed}
 
 abbrev pub textOf : List ℕ → List (List ℕ) → List (List ℕ) → List ℕ
 textOf root ks us = joined (map (newUid root) (numbers sameName ks (map slotOf us)))

@@ -23,9 +23,9 @@ use Rattle.uid.specs.Value.{uidsOf}
 use Rattle.uid.specs.NewUid.{uidsText}
 use Rattle.ledger.specs.Names.{learns, numbers, sameName}
 use Rattle.ledger.specs.Slots.{slotSize, slotsOf, slotOf, slotsIn, flat}
 use Rattle.put.specs.Element.{elementBytes}
-use Rattle.put.specs.declared.Renamed.{Renamed}
-use Rattle.put.specs.declared.Renamed.the-variants.{Full, To}
+use Rattle.rename.specs.declared.Renamed.{Renamed}
+use Rattle.rename.specs.declared.Renamed.the-variants.{Full, To}
 
 abbrev pub namesAfter : List ℕ → ℕ → List (List ℕ) → List (List ℕ)
 namesAfter l used us = learns sameName (slotsIn l used) (map slotOf us)

@@ -1,15 +1,15 @@
--- `put::put_uids` meets its contract. Each way of the loop is a law of `proofs/Turns.antt`. Assumes nothing.
+-- `rename::put_uids` meets its contract. Each way of the loop is a law of `proofs/Turns.antt`. Assumes nothing.
 use mathlib.Core.Path.{ap, _∙_}
 use Prim.Native.Nat.{_-_}
 use lib.ListN.{length}
 use Rattle.buffer.proofs.Laws.{length-laid}
-use Rattle.put.proofs.Turns.{Going, start, piece-place, stop-long, stop-full, uid-bound, same-ledger, done, go}
+use Rattle.rename.proofs.Turns.{Going, start, piece-place, stop-long, stop-full, uid-bound, same-ledger, done, go}
 use borrow.Author.Needs.{needs}
 use native.Mathlib.Omega.{arith}
-use Rattle.put.proofs.put_uids.Statement.{statement}
-use Rattle.put.proofs.put_uids.Tie as tie
-use Rattle.put.proofs.put_uids.Reads as reads
-use Rattle.put.proofs.put_uids.Lts as lts
+use Rattle.rename.proofs.put_uids.Statement.{statement}
+use Rattle.rename.proofs.put_uids.Tie as tie
+use Rattle.rename.proofs.put_uids.Reads as reads
+use Rattle.rename.proofs.put_uids.Lts as lts
 use Rattle.buffer.proofs.put.Reads as put-reads
 use Rattle.ledger.proofs.slot_of.Reads as slot-of-reads
 use Rattle.uid.proofs.piece_end.Reads as piece-end-reads

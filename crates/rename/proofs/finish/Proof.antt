@@ -1,11 +1,11 @@
--- `put::finish` meets its contract: the text's length is even; it is odd. Assumes nothing.
-use Rattle.put.proofs.Whole.{finish-even, finish-odd}
+-- `rename::finish` meets its contract: the text's length is even; it is odd. Assumes nothing.
+use Rattle.rename.proofs.Whole.{finish-even, finish-odd}
 use native.Mathlib.Omega.{arith}
 use borrow.Author.Needs.{needs}
-use Rattle.put.proofs.finish.Statement.{statement}
-use Rattle.put.proofs.finish.Tie as tie
-use Rattle.put.proofs.finish.Reads as reads
-use Rattle.put.proofs.finish.Lts as lts
+use Rattle.rename.proofs.finish.Statement.{statement}
+use Rattle.rename.proofs.finish.Tie as tie
+use Rattle.rename.proofs.finish.Reads as reads
+use Rattle.rename.proofs.finish.Lts as lts
 use Rattle.buffer.proofs.put.Reads as put-reads
 use Rattle.heads.proofs.put_header.Reads as put-header-reads
 

@@ -1,15 +1,15 @@
--- `put::put_renamed` meets its contract: no byte in the value; no slot left; the whole element. Assumes nothing.
+-- `rename::put_renamed` meets its contract: no byte in the value; no slot left; the whole element. Assumes nothing.
 use Rattle.uid.proofs.PadLaws.{trimmed-part}
-use Rattle.put.proofs.Whole.{empty-value, text-place, stopped, finished}
+use Rattle.rename.proofs.Whole.{empty-value, text-place, stopped, finished}
 use native.Mathlib.Omega.{arith}
 use borrow.Author.Needs.{needs}
-use Rattle.put.proofs.put_renamed.Statement.{statement}
-use Rattle.put.proofs.put_renamed.Tie as tie
-use Rattle.put.proofs.put_renamed.Reads as reads
-use Rattle.put.proofs.put_renamed.Lts as lts
+use Rattle.rename.proofs.put_renamed.Statement.{statement}
+use Rattle.rename.proofs.put_renamed.Tie as tie
+use Rattle.rename.proofs.put_renamed.Reads as reads
+use Rattle.rename.proofs.put_renamed.Lts as lts
 use Rattle.heads.proofs.put_header.Reads as put-header-reads
-use Rattle.put.proofs.finish.Reads as finish-reads
-use Rattle.put.proofs.put_uids.Reads as put-uids-reads
+use Rattle.rename.proofs.finish.Reads as finish-reads
+use Rattle.rename.proofs.put_uids.Reads as put-uids-reads
 use Rattle.uid.proofs.trimmed_end.Reads as trimmed-end-reads
 
 put-header-requires : tie.Need-put-header-requires
