@@ -3,7 +3,7 @@
 --     Wrote o pos xs r o′        o′ is o with xs written from pos on, and r is the place past it: what each function ensures
 --     wrote-none, wrote-as, wrote-next     nothing; the same bytes otherwise said; one write next to another
 --     pad-left, pad-put          a pad
---     wrote-close, wrote-copied, wrote-text     a text, then its pad, then its header in front
+--     wrote-close, wrote-text     a text, then its pad, then its header in front
 --     wrote-head, wrote-item     an item up to its meaning; whole
 --     bit-yes, bit-no            the item of a bit
 --     Going, going-..            the loop over the options
@@ -30,7 +30,6 @@ use Rattle.vr.specs.declared.Kind.the-variants.{Short}
 use Rattle.layout.specs.Tree.{Field, items, nil, Data}
 use Rattle.layout.specs.Heads.{itemTag, itemEnd, sequenceEnd, undefined}
 use Rattle.layout.specs.Write.{mark, header, putElements, putField, bytesOf}
-use Rattle.uid.proofs.PartLaws.{part-all}
 use Rattle.options.specs.Options.{options, codeOf, meaningOf, chosenIn, optAt, chosenOf}
 use Rattle.options.specs.Settings.{dateWord}
 use Rattle.options.specs.declared.Opt.{Opt}
@@ -78,11 +77,7 @@ module _ (o : List ℕ) (pos : ℕ) where
   pub pad-put : (n : ℕ) (o′ : List ℕ) → (n % 2 ≡ 0 → ⊥) → o′ ≡ laid o pos (0x20 ∷ []) → Wrote o pos (padOf n) (pos + 1) o′
   pad-put n o′ h e = wrote-as (0x20 ∷ []) (padOf n) (pos + 1) o′ (sym (pad-one n h)) (refl, e)
 
-  -- a text copied whole
-  pub wrote-copied : (words : List ℕ) (r : ℕ) (o′ : List ℕ) → (r ≡ pos + (length words - 0)) × (o′ ≡ laid o pos (part words 0 (length words)))
-      → Wrote o pos words r o′
-  wrote-copied words r o′ w = (omega (arith, w .0), w .1 ∙ ap (laid o pos) (part-all words))
-
+  -- a text, its pad and its header
   pub wrote-text : (tag vr : ℕ) (t : List ℕ) (past r : ℕ) (o₁ o₂ : List ℕ) → kindOf vr ≡ Short → Wrote o (pos + 8) t past o₁
       → (r ≡ past + length (padOf (past - (pos + 8))))
       × (o₂ ≡ laid (laid o₁ past (padOf (past - (pos + 8)))) pos (header tag vr (past - (pos + 8) + length (padOf (past - (pos + 8))))))

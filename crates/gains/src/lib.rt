@@ -9,8 +9,6 @@ ghost use lib.ListN.{length};
 ghost use Rattle.basis.specs.Text.{ascii};
 ghost use Rattle.buffer.specs.Buffer.{laid};
 ghost use Rattle.vr.specs.Names.{CS, SQ};
-ghost use Rattle.vr.specs.Vr.{kindOf};
-ghost use Rattle.vr.specs.declared.Kind.the-variants.{Short};
 ghost use Rattle.layout.specs.Tree.{nil, items};
 ghost use Rattle.layout.specs.Write.{header, putField, bytesOf};
 ghost use Rattle.options.specs.Options.{optAt, basicCode, basicMeaning, chosen, codeOf, meaningOf};
@@ -31,15 +29,6 @@ const VALUE: u64 = 0x0008_0100;
 const SCHEME: u64 = 0x0008_0102;
 
 const MEANING: u64 = 0x0008_0104;
-
-// An item's tag, the end marks, and the length of what one closes.
-const ITEM: u64 = 0xFFFE_E000;
-
-const ITEM_END: u64 = 0xFFFE_E00D;
-
-const SEQUENCE_END: u64 = 0xFFFE_E0DD;
-
-const UNDEFINED: usize = 0xFFFF_FFFF;
 
 const SPACE: u8 = b' ';
 
@@ -68,24 +57,14 @@ fn close_text(tag: u64, vr: u64, out: &mut [u8], pos: usize, past: usize) -> usi
     end
 }
 
-// An element with a text, its header of eight bytes; the place past it.
-fn put_text(tag: u64, vr: u64, words: &[u8], out: &mut [u8], pos: usize) -> usize
-    requires { ⌜ (kindOf vr ≡ Short) × (pos + length (now words) + 20 < 2 ^ 64) ⌝ }
-    ensures { λ r. ⌜ (r ≡ pos + length (putField tag vr (text (now (words .entry))) []))
-        × (now (out .exit) ≡ laid (now (out .entry)) pos (putField tag vr (text (now (words .entry))) [])) ⌝ }
-{
-    let past = buffer::copy_block(words, 0, words.len(), out, pos + 8);
-    close_text(tag, vr, out, pos, past)
-}
-
 // An item's tag, its code value and the name of its scheme.
 fn open_code(code: &[u8], out: &mut [u8], pos: usize) -> usize
     requires { ⌜ (length (now code) ≤ 6) × (pos + 100 < 2 ^ 64) ⌝ }
     ensures { λ r. ⌜ (r ≡ pos + length (headOf (now (code .entry)))) × (now (out .exit) ≡ laid (now (out .entry)) pos (headOf (now (code .entry)))) ⌝ }
 {
-    let p = heads::put_mark(ITEM, UNDEFINED, out, pos);
-    let q = put_text(VALUE, vr::SH, code, out, p);
-    put_text(SCHEME, vr::SH, b"DCM", out, q)
+    let p = heads::put_mark(layout::ITEM, layout::UNDEFINED, out, pos);
+    let q = put::put_text(VALUE, vr::SH, code, out, p);
+    put::put_text(SCHEME, vr::SH, b"DCM", out, q)
 }
 
 // The item of the basic profile itself.
@@ -98,7 +77,7 @@ fn put_basic(out: &mut [u8], pos: usize) -> usize
     let p = open_code(&code, out, pos);
     let past = Opt::put_basic_meaning(out, p + 8);
     let q = close_text(MEANING, vr::LO, out, p, past);
-    heads::put_mark(ITEM_END, 0, out, q)
+    heads::put_mark(layout::ITEM_END, 0, out, q)
 }
 
 // The item of an option.
@@ -111,7 +90,7 @@ fn put_option(opt: Opt, out: &mut [u8], pos: usize) -> usize
     let p = open_code(&code, out, pos);
     let past = opt.put_meaning(out, p + 8);
     let q = close_text(MEANING, vr::LO, out, p, past);
-    heads::put_mark(ITEM_END, 0, out, q)
+    heads::put_mark(layout::ITEM_END, 0, out, q)
 }
 
 // The item of the option of a bit, where the option number has it.
@@ -148,10 +127,10 @@ fn put_codes(options: u64, out: &mut [u8], pos: usize) -> usize
     ensures { λ r. ⌜ (r ≡ pos + length (putField codesTag SQ (items (codes options)) []))
         × (now (out .exit) ≡ laid (now (out .entry)) pos (putField codesTag SQ (items (codes options)) [])) ⌝ }
 {
-    let p = heads::put_header(CODES, vr::SQ, UNDEFINED, out, pos);
+    let p = heads::put_header(CODES, vr::SQ, layout::UNDEFINED, out, pos);
     let q = put_basic(out, p);
     let end = put_options(options, out, q);
-    heads::put_mark(SEQUENCE_END, 0, out, end)
+    heads::put_mark(layout::SEQUENCE_END, 0, out, end)
 }
 
 // (0028,0303): what became of dates.
@@ -176,7 +155,7 @@ fn yes_due(low: u64, high: u64, out: &mut [u8], pos: usize) -> usize
     if high <= YES {
         return pos;
     }
-    put_text(YES, vr::CS, b"YES", out, pos)
+    put::put_text(YES, vr::CS, b"YES", out, pos)
 }
 
 fn codes_due(options: u64, low: u64, high: u64, out: &mut [u8], pos: usize) -> usize

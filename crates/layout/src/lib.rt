@@ -18,13 +18,14 @@ pub const DEEPEST: u8 = 8;
 // How many bytes a data set may have.
 pub const LONGEST: usize = 268435456;
 
-const ITEM: u64 = 0xFFFE_E000;
+// An item's tag, the end marks of an item and of a sequence, and the length of what ends with such a mark.
+pub const ITEM: u64 = 0xFFFE_E000;
 
-const ITEM_END: u64 = 0xFFFE_E00D;
+pub const ITEM_END: u64 = 0xFFFE_E00D;
 
-const SEQUENCE_END: u64 = 0xFFFE_E0DD;
+pub const SEQUENCE_END: u64 = 0xFFFE_E0DD;
 
-const UNDEFINED: usize = 0xFFFF_FFFF;
+pub const UNDEFINED: usize = 0xFFFF_FFFF;
 
 // The first tag that an element may have, and the first after it that none may.
 const FIRST_TAG: u64 = 0x0008_0000;

@@ -11,5 +11,11 @@ pub mod WrongStations
 pub mod Demand3Proof
 pub mod Witness
 pub mod OneOutcome
+pub mod OneOutcomeLayout
+pub mod OneOutcomeLeaves
+pub mod OneOutcomeRules
+pub mod OneOutcomeValues
 pub mod RunningProof
 pub mod RunningBatches
+pub mod OneOutcomeWalks
+pub mod OneOutcomeEntries

@@ -15,15 +15,6 @@ ghost use Rattle.put.specs.Element.{elementBytes, withLists};
 
 const SPACE: u8 = b' ';
 
-// An item's tag, the end marks of an item and of a sequence, and the length of what ends with such a mark.
-const ITEM: u64 = 0xFFFE_E000;
-
-const ITEM_END: u64 = 0xFFFE_E00D;
-
-const SEQUENCE_END: u64 = 0xFFFE_E0DD;
-
-const UNDEFINED: usize = 0xFFFF_FFFF;
-
 // An element with the value that came in (K).
 pub fn put_same(
     tag: u64,
@@ -118,10 +109,10 @@ pub fn put_dummied<'a>(
     ensures { λ r. ⌜ (r ≡ pos + length (elementBytes tag vr (dummiedAs (withLists (now (study .entry)) (now (site .entry))) tag vr))) × (now (out .exit) ≡ laid (now (out .entry)) pos (elementBytes tag vr (dummiedAs (withLists (now (study .entry)) (now (site .entry))) tag vr))) ⌝ }
 {
     if vr == vr::SQ {
-        let items = heads::put_header(tag, vr, UNDEFINED, out, pos);
-        let inside = heads::put_mark(ITEM, UNDEFINED, out, items);
-        let after = heads::put_mark(ITEM_END, 0, out, inside);
-        return heads::put_mark(SEQUENCE_END, 0, out, after);
+        let items = heads::put_header(tag, vr, layout::UNDEFINED, out, pos);
+        let inside = heads::put_mark(layout::ITEM, layout::UNDEFINED, out, items);
+        let after = heads::put_mark(layout::ITEM_END, 0, out, inside);
+        return heads::put_mark(layout::SEQUENCE_END, 0, out, after);
     }
     if vr::served_by_lists(vr) {
         let found = lists::lookup(study, site, tag);

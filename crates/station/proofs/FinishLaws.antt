@@ -2,7 +2,7 @@
 --     Finished              the three claims of `finish`
 --     no-slot, no-room, all-well     13, 14, done
 --     few-bytes             the slots in use have few bytes
-use mathlib.Core.Path.{_≡_, refl, subst}
+use mathlib.Core.Path.{_≡_, subst}
 use mathlib.Core.List.{List}
 use Prim.Native.Nat.{ℕ, _*_, _≤_, _<_, _^_}
 use native.Mathlib.Omega.{arith}

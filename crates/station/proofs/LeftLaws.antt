@@ -3,17 +3,16 @@
 --     cleared-filled     of any buffer, from a place within it on
 --     cleared-zeroed     all of it
 --     left-cleared, left-whole    the ledger after a refusal, by its two cases
---     left-same          it hangs on the ledger's length and its slots in use alone
-use mathlib.Core.Path.{_≡_, refl, sym, ap, ap₂, _∙_}
-use mathlib.Core.List.{List, [], _++_}
-use Prim.Native.Nat.{ℕ, _-_, _*_, _/_, _≤_, _<_, min}
+--     slots-same         the slots of a ledger hang on its length alone
+--     left-same          what is left hangs on the ledger's length and its slots in use alone
+use mathlib.Core.Path.{_≡_, sym, ap, ap₂, _∙_}
+use mathlib.Core.List.{List, []}
+use Prim.Native.Nat.{ℕ, _*_, _/_, _≤_, _<_, min}
 use native.Mathlib.Omega.{arith}
-use lib.Dec.{ltb}
-use lib.ListN.{length, take, replicate}
+use lib.ListN.{length, take}
 use lib.Seq.{length-take-le}
 use borrow.Author.Tests.{lt-ltb, le-ltb}
-use Rattle.basis.specs.Choice.{pick}
-use Rattle.buffer.specs.Buffer.{laid, cleared}
+use Rattle.buffer.specs.Buffer.{cleared}
 use Rattle.buffer.proofs.Laws.{cleared-laid, laid-none}
 use Rattle.ledger.specs.Slots.{slotSize, mostSlots, slotsOf}
 use Rattle.ledger.proofs.LaidLaws.{laid-same}
@@ -36,8 +35,12 @@ module _ (l : List ℕ) (used : ℕ) where
   pub left-cleared : used ≤ slotsOf l → cleared l (slotSize * used) ≡ left l used
   left-cleared h = rw (le-ltb (slotsOf l) used h) (cleared-filled l (slotSize * used) (slotsOf-fits l used h))
 
+-- the slots of a ledger hang on its length alone
+pub slots-same : (l l₁ : List ℕ) → length l₁ ≡ length l → slotsOf l₁ ≡ slotsOf l
+slots-same l l₁ e = ap (λ k. min (k / slotSize) mostSlots) e
+
 pub left-same : (l l₁ : List ℕ) (used : ℕ) → length l₁ ≡ length l → take (slotSize * used) l₁ ≡ take (slotSize * used) l → used ≤ slotsOf l
     → left l₁ used ≡ left l used
 left-same l l₁ used n e h =
-    let s : slotsOf l₁ ≡ slotsOf l = ap (λ k. min (k / slotSize) mostSlots) n in
+    let s : slotsOf l₁ ≡ slotsOf l = slots-same l l₁ n in
     rw (le-ltb (slotsOf l) used h, le-ltb (slotsOf l₁) used (omega arith)) (ap₂ filledUp n e)

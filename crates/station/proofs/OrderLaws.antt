@@ -19,7 +19,7 @@ use borrow.Author.Tests.{eqb-true, eqb-false}
 use Rattle.basis.specs.Choice.{pick, among}
 use Rattle.layout.specs.Limits.{deepest, longest}
 use Rattle.layout.specs.Tree.{Elements, Place}
-use Rattle.layout.specs.Read.{Result, good, fault, read}
+use Rattle.layout.specs.Read.{Result, good, fault}
 use Rattle.layout.specs.declared.Shape.{Shape}
 use Rattle.layout.specs.declared.Shape.the-variants.{Fine, Fault}
 use Rattle.layout.proofs.MadeLaws.{read-fault}
@@ -30,8 +30,8 @@ use Rattle.options.specs.Settings.{settingsFault}
 use Rattle.kept.specs.Fates.{top}
 use Rattle.kept.specs.Faults.{Fault as ValueFault, firstFault}
 use Rattle.kept.proofs.FaultsLaws.{Eleven, firstFault-number}
-use Rattle.answer.specs.Input.{Input, readAs, treeIn, treeOf, slotsAfter, bytesFor}
-use Rattle.answer.specs.Conditions.{when, condition1, condition2, condition3, condition4, condition5, faultIs, shapeCondition, valueIs, valueCondition, condition13, condition14, conditions}
+use Rattle.answer.specs.Input.{Input, readAs, treeOf, slotsAfter, bytesFor}
+use Rattle.answer.specs.Conditions.{when, condition1, condition2, condition3, condition4, condition5, shapeCondition, valueIs, valueCondition, condition13, condition14}
 use Rattle.answer.specs.Answer.{Outcome, refused, done, firstOf, answer}
 use Rattle.values.specs.Judged.{judged}
 use Rattle.station.specs.Steps.{early, judgedAs}

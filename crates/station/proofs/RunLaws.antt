@@ -1,30 +1,30 @@
 -- A run of the entry, step by step, against `answer`: what each way out leaves is what the definition says. Laws over the results of the
 -- steps; no contract cites this file. Assumes nothing.
 --     Right i r o l         the entry's three claims of the answer r, the output o and the ledger l that it leaves
---     Steps i n j           the early number n and the judgement j are those of the input i
+--     Found i, found        a judgement without fault: the tree that was read, without a fault among its values
+--     done-right            a run that is done
 --     refused-early         a refusal 1 to 5
 --     refused-judged        a refusal 6 to 12
---     counted, ended        after the walk that writes: 13, 14, or done
-use mathlib.Core.Path.{_≡_, refl, sym, ap, ap₂, subst, _∙_}
+--     counted, walk-right   after the walk that writes: 13, 14, or done
+use mathlib.Core.Path.{_≡_, refl, sym, ap, ap₂, _∙_}
 use mathlib.Core.Bool.{Bool, true, false}
 use mathlib.Core.List.{List, [], map}
 use mathlib.Core.Option.{Option, none, some}
-use Prim.Native.Nat.{ℕ, zero, suc, _-_, _*_, _/_, _≤_, _<_, min}
+use Prim.Native.Nat.{ℕ, zero, suc, _*_, _≤_, _<_}
 use native.Mathlib.Omega.{arith}
 use lib.Dec.{ltb}
 use lib.IntN.{ℤ}
-use lib.ListN.{length, take}
+use lib.ListN.{length}
 use borrow.Author.Tests.{lt-ltb, le-ltb, ltb-true, ltb-false}
 use Rattle.basis.specs.Choice.{pick}
-use Rattle.buffer.specs.Buffer.{laid, cleared}
+use Rattle.buffer.specs.Buffer.{cleared}
 use Rattle.buffer.proofs.Laws.{cleared-laid}
 use Rattle.layout.specs.Tree.{Elements, Place}
 use Rattle.layout.specs.Read.{Result, good, fault}
 use Rattle.layout.specs.declared.Shape.{Shape}
 use Rattle.layout.specs.declared.Shape.the-variants.{Fine, Fault}
-use Rattle.ledger.specs.Slots.{slotSize, mostSlots, slotsOf, slotOf, slotsIn, flat}
+use Rattle.ledger.specs.Slots.{slotSize, slotsOf, slotOf, flat}
 use Rattle.ledger.proofs.SlotLaws.{Sized, slotsOf-fits, sized-slotsIn, sized-learns, length-flat}
-use Rattle.kept.specs.Settings.{Settings}
 use Rattle.kept.specs.Fates.{top}
 use Rattle.kept.specs.Content.{namesIn}
 use Rattle.kept.specs.Counts.{Counts, counts, countsOf}
@@ -33,7 +33,6 @@ use Rattle.kept.proofs.UidsLaws.{kept-uids, sized-uids}
 use Rattle.answer.specs.Input.{Input, readAs, treeIn, treeOf, content, inUse, slotsAfter, bytesFor}
 use Rattle.answer.specs.Answer.{refused, done, answer, Report, reportFor, reportOf, filledUp, outputFor, outputOf, ledgerFor, ledgerOf}
 use Rattle.values.specs.Judged.{judged}
-use Rattle.write.specs.Wrote.{Given}
 use Rattle.write.specs.Whole.{Ended, Whole}
 use Rattle.write.specs.declared.Progress.{Progress}
 use Rattle.write.specs.declared.Walk.{Walk}
@@ -42,7 +41,7 @@ use Rattle.station.specs.Entry.{report}
 use Rattle.station.specs.Steps.{judgedAs, Judged, zeroed, left, Counted, finished, finishedOutput, finishedLedger}
 use Rattle.station.specs.declared.Outcome.{Outcome}
 use Rattle.station.specs.declared.Outcome.the-variants.{Refused, Done}
-use Rattle.station.proofs.LeftLaws.{left-same}
+use Rattle.station.proofs.LeftLaws.{slots-same, left-same}
 use Rattle.station.proofs.OrderLaws.{joined, earlyOutcome, shapeOutcome, earlyOf, endOutcome, answer-is}
 
 pub record Right (i : Input) (r : Outcome) (o l : List ℕ) : Type 0 where
@@ -96,7 +95,7 @@ report-is : {n n′ u u′ : ℕ} {c c′ : Counts} → n ≡ n′ → u ≡ u�
 report-is a b c = rw (a, b, c)
 
 module _ (i : Input) (o : List ℕ) (size : length o ≡ i .room) (fits : i .used ≤ slotsOf (i .ledger)) (f : Found i) where
-  done-right : (past : ℕ) (t : Progress) {o₁ l₁ : List ℕ} → Ended i (f .tree) o o₁ (i .ledger) l₁ (To past t) → t .pos ≤ length o → answer i ≡ done
+  done-right : (past : ℕ) (t : Progress) {o₁ l₁ : List ℕ} → Ended i (f .tree) (f .past) o o₁ (i .ledger) l₁ (To past t) → t .pos ≤ length o → answer i ≡ done
       → {r : Outcome} {o₂ l₂ : List ℕ} → r ≡ Done t → o₂ ≡ cleared o₁ (t .pos) → l₂ ≡ cleared l₁ (slotSize * t .used) → Right i r o₂ l₂
   unfolding reportOf outputOf ledgerOf
   done-right past t {o₁} {l₁} e room ok a b c =
@@ -146,20 +145,17 @@ module _ (i : Input) (o : List ℕ) (size : length o ≡ i .room) (n : ℕ) (fir
       abbrev read-so : Found i
       read-so = found i past (sym fine ∙ judgement)
 
-      ended : Ended i (read-so .tree) o o₁ (i .ledger) l₁ walk
+      ended : Ended i (read-so .tree) (read-so .past) o o₁ (i .ledger) l₁ walk
       ended =
           whole .right i (record { options-is = refl; shift-is = same; root-is = refl; study-is = refl; site-is = refl }) refl refl refl (read-so .tree)
           (read-so .past) (read-so .reads) (read-so .sound)
 
-      same-slots : slotsOf l₁ ≡ slotsOf (i .ledger)
-      same-slots = ap (λ k. min (k / slotSize) mostSlots) (whole .ledger-size)
-
       pub counted : Counted l₁ walk
       counted = step walk ended
         where
-          step : (w : Walk) → Ended i (read-so .tree) o o₁ (i .ledger) l₁ w → Counted l₁ w
+          step : (w : Walk) → Ended i (read-so .tree) (read-so .past) o o₁ (i .ledger) l₁ w → Counted l₁ w
           step Stop e = tt
-          step (To p t) e = omega (arith, e .5, same-slots)
+          step (To p t) e = omega (arith, e .5, slots-same (i .ledger) l₁ (whole .ledger-size))
 
       again : left l₁ (i .used) ≡ left (i .ledger) (i .used)
       again = left-same (i .ledger) l₁ (i .used) (whole .ledger-size) (whole .slots-kept) fits
@@ -171,7 +167,7 @@ module _ (i : Input) (o : List ℕ) (size : length o ≡ i .room) (n : ℕ) (fir
           full : slotsOf (i .ledger) < length (slotsAfter i) → answer i ≡ refused 13 0
           full h = end-answer ∙ rw (lt-ltb (slotsOf (i .ledger)) (length (slotsAfter i)) h)
 
-          by-walk : (w : Walk) → Ended i (read-so .tree) o o₁ (i .ledger) l₁ w → r ≡ finished o₁ w → o₂ ≡ finishedOutput o₁ w
+          by-walk : (w : Walk) → Ended i (read-so .tree) (read-so .past) o o₁ (i .ledger) l₁ w → r ≡ finished o₁ w → o₂ ≡ finishedOutput o₁ w
               → l₂ ≡ finishedLedger o₁ l₁ (i .used) w → Right i r o₂ l₂
           by-walk Stop e a b c = refuses i 13 0 (full e) o₁ (whole .out-size ∙ size) a b (c ∙ again)
           by-walk (To p t) e a b c = by-room (ltb (length o₁) (t .pos)) refl a b c

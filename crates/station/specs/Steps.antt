@@ -7,7 +7,7 @@
 --     Counted l walk         the walk's count in use is at most the slots
 --     finished, finishedOutput, finishedLedger    the answer after the walk that writes, and what it leaves
 use mathlib.Core.Path.{_≡_}
-use mathlib.Core.Bool.{Bool, not, _&&_}
+use mathlib.Core.Bool.{not, _&&_}
 use mathlib.Core.List.{List, []}
 use Prim.Native.Nat.{ℕ, _*_, _≤_}
 use lib.Dec.{ltb}

@@ -50,7 +50,7 @@ use Rattle.write.specs.Wrote.{Given, Holds, Ends, met, Bounds, Wrote, St
 use Rattle.write.specs.declared.Progress.{Progress}
 use Rattle.write.specs.declared.Walk.{Walk}
 use Rattle.write.specs.declared.Walk.the-variants.{Stop, To}
-use Rattle.write.proofs.PassedLaws.{one-removed as passed-removed, one-kept as passed-kept, one-shifted, one-emptied, one-dummied, one-renamed as passed-renamed}
+use Rattle.write.proofs.PassedLaws.{counts-is, one-removed as passed-removed, one-kept as passed-kept, one-shifted, one-emptied, one-dummied, one-renamed as passed-renamed}
 use Rattle.write.proofs.HoldsLaws.{holds-say, holds-count}
 
 -- ---- what is passed on, by the fate
@@ -151,9 +151,6 @@ module _ {days : ℤ} {root study site : List ℕ} {tag vr : ℕ} {s : List ℕ}
 
 said-none : (st : State) (c : Counts) → count st c ≡ count (say st []) c
 said-none st c = ap (λ b. count (record { bytes = b; names = st .names; tally = st .tally }) c) (sym (append-nil (st .bytes)))
-
-counts-is : {a b c d a′ b′ c′ d′ : ℕ} → a ≡ a′ → b ≡ b′ → c ≡ c′ → d ≡ d′ → counts a b c d ≡ counts a′ b′ c′ d′
-counts-is p q r s = cc
 
 counts-are-one : {a b c d : ℕ} {k : Counts} → counts a b c d ≡ k → counts a b (c + 1) d ≡ plus k (one renamed)
 counts-are-one {a} {b} {c} {d} e = counts-is (omega arith) (omega arith) (omega arith) (omega arith) ∙ ap (λ k. plus k (one renamed)) e

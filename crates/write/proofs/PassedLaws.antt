@@ -35,7 +35,7 @@ use Rattle.write.specs.Passed.{State, say, count, slotted, slottedItems,
 
 -- ---- counts and states
 
-counts-is : {a b c d a′ b′ c′ d′ : ℕ} → a ≡ a′ → b ≡ b′ → c ≡ c′ → d ≡ d′ → counts a b c d ≡ counts a′ b′ c′ d′
+pub counts-is : {a b c d a′ b′ c′ d′ : ℕ} → a ≡ a′ → b ≡ b′ → c ≡ c′ → d ≡ d′ → counts a b c d ≡ counts a′ b′ c′ d′
 counts-is p q r s = cc
 
 pub plus-nothing : (a : Counts) → plus a nothing ≡ a

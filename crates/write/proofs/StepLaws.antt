@@ -47,7 +47,7 @@ use Rattle.write.specs.Wrote.{Given, Holds, Ends, met, Bounds, Wrote, El
 use Rattle.write.specs.declared.Progress.{Progress}
 use Rattle.write.specs.declared.Walk.{Walk}
 use Rattle.write.specs.declared.Walk.the-variants.{Stop, To}
-use Rattle.write.proofs.PassedLaws.{one-shut, one-open}
+use Rattle.write.proofs.PassedLaws.{counts-is, one-shut, one-open}
 use Rattle.write.proofs.HoldsLaws.{holds-say, holds-count}
 use Rattle.write.proofs.WroteLaws.{Pass, Splits, wrote-first, wrote-stop}
 
@@ -211,9 +211,6 @@ module _ {options : ℕ} {days days′ : ℤ} {root study site : List ℕ} {top 
             sound = rw φ at (y .sound);
             ends = to-gained y;
           }
-
-counts-is : {a b c d a′ b′ c′ d′ : ℕ} → a ≡ a′ → b ≡ b′ → c ≡ c′ → d ≡ d′ → counts a b c d ≡ counts a′ b′ c′ d′
-counts-is p q r s = cc
 
 -- ---- a sequence that is walked into
 

@@ -39,6 +39,7 @@ use Rattle.write.specs.Whole.{Ended, Whole}
 use Rattle.write.specs.declared.Progress.{Progress}
 use Rattle.write.specs.declared.Walk.{Walk}
 use Rattle.write.specs.declared.Walk.the-variants.{Stop, To}
+use Rattle.write.proofs.PassedLaws.{counts-is}
 
 abbrev pub begun : ℕ → Progress
 begun used = record { pos = 0; used = used; kept = 0; replaced = 0; renamed = 0; removed = 0 }
@@ -76,9 +77,6 @@ module _ (i : Input) (es : Elements Place) (past : ℕ) (e : readAs i ≡ good e
 
 plus-none : (c : Rattle.kept.specs.Counts.Counts) → plus nothing c ≡ c
 plus-none c = counts-is (omega arith) (omega arith) (omega arith) (omega arith)
-  where
-    counts-is : {a b c d a′ b′ c′ d′ : ℕ} → a ≡ a′ → b ≡ b′ → c ≡ c′ → d ≡ d′ → counts a b c d ≡ counts a′ b′ c′ d′
-    counts-is p q r s = cc
 
 module _ {options : ℕ} {days days′ : ℤ} {root study site s l l′ : List ℕ} {used : ℕ} {o o′ : List ℕ} {r : Walk} (same : days′ ≡ days) (fits : used ≤ slotsOf l)
     (x : Wrote (ElementsPass options days′ root study site s 0 (length s) false deepest true 0) 0 (length s) 1024 0 o o′ l l′ (begun used) r) where
@@ -96,7 +94,7 @@ module _ {options : ℕ} {days days′ : ℤ} {root study site s l l′ : List �
   }
 
   ended : (i : Input) → i .ledger ≡ l → i .used ≡ used → (es : Elements Place) (past : ℕ) → readAs i ≡ good es past → (r : Walk) → Bounds 0 (length s) 1024 0 l (begun used) r
-      → Ends o l o′ l′ past (passed (i .settings) true 0 es (first-state l used)) r → Ended i es o o′ l l′ r
+      → Ends o l o′ l′ past (passed (i .settings) true 0 es (first-state l used)) r → Ended i es past o o′ l l′ r
   unfolding passed
   ended i el eu es past e Stop b h =
       let n : passed (i .settings) true 0 es (first-state l used) .names ≡ slotsAfter i =
@@ -112,6 +110,7 @@ module _ {options : ℕ} {days days′ : ℤ} {root study site s l l′ : List �
         h .1 .ledger-is ∙ ap (λ k. laid l 0 (flat k)) n,
         h .1 .counts-are ∙ plus-none (countsOf es (i .settings) top),
         b .5,
+        h .0,
       )
 
   pub whole : Whole options days root study site s l l′ used o o′ r

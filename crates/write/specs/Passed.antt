@@ -4,6 +4,8 @@
 --     say st xs                st, with the bytes xs behind its own
 --     count st c               st, with the counts c more
 --     slotted es s level       the kept content of the elements es, each UID as its slot
+--     slottedItems is s       the same of the items of a sequence
+--     treeFor s level known es     the elements that are written of es, where `known` are the slots in use
 --     passed s top low es st   st after the elements es of a level, whose tags are at least low: on the top level with what it gains from low on
 --     passedOne s top es st    the same without what the top level gains; for one element
 --     passedItems s is st      st after the items is of a sequence that is walked into, and the mark that ends it

@@ -1,12 +1,15 @@
--- What the functions of the writing walk promise. Each is one `Wrote`, over what is to be passed; private contracts cite this file, and
--- `Whole` is the public one. Assumes nothing.
+-- What the functions of the writing walk promise: each that walks or writes an element is one `Wrote`, over what is to be passed. Private
+-- contracts cite this file; the public one is `Whole`. Assumes nothing.
 --     Given w options days root study site   w is the settings that these parameters of the code stand for
 --     Holds o₀ l₀ o l t st     the output o and the ledger l, which were o₀ and l₀, and the progress t hold the state st
 --     Ends                     a walk that should end at a place with a state does so; or it stops, where the state has more slots than there are
+--     met t                    the four counts of the progress t together
+--     Bounds                   where a walk may end, how much it may write and count, and how many slots may be in use
 --     Wrote T from end more one ..   the promise: sizes stay and places stay within bounds whatever the bytes are, and where T says
 --                              that a state is to be passed on to another, it was
---     ElementsPass, SequencePass, WalkedPass, ItemsPass, ItemPass, ActPass   what is to be passed: the tree that was read, without a fault in
---                              its values, and the state after it
+--     ElementsPass, ItemsPass, ItemPass, WalkedPass, ShutPass, SequencePass, ActPass, PlainPass    what is to be passed: the tree that was
+--                              read, without a fault in its values, and the state after it
+--     Stands f vr s from to    what an element that is not walked into holds
 use mathlib.Core.Path.{_≡_}
 use mathlib.Core.Bool.{Bool, true, false}
 use mathlib.Core.Logic.{_≢_}

@@ -20,15 +20,6 @@ ghost use Rattle.layout.specs.Limits.{longest};
 ghost use Rattle.write.specs.Whole.{Whole};
 ghost use Rattle.write.specs.Steps.{at-place, one-kept, one-replaced, one-renamed, one-removed, walks};
 
-// An item's tag, the end marks, and the length of what ends with one.
-const ITEM: u64 = 0xFFFE_E000;
-
-const ITEM_END: u64 = 0xFFFE_E00D;
-
-const SEQUENCE_END: u64 = 0xFFFE_E0DD;
-
-const UNDEFINED: usize = 0xFFFF_FFFF;
-
 // No tag is as large.
 const PAST_ALL_TAGS: u64 = 0x1_0000_0000;
 
@@ -458,7 +449,7 @@ fn walked<'a>(
             Walk::To(past, one_kept(t, pos))
         }
         Spot::Item(_, _, _) => {
-            let pos = heads::put_header(tag, vr::SQ, UNDEFINED, out, t.pos);
+            let pos = heads::put_header(tag, vr::SQ, layout::UNDEFINED, out, t.pos);
             let u = one_kept(t, pos);
             items(
                 rows,
@@ -507,7 +498,7 @@ fn items<'a>(
         match h {
             Spot::Wrong(_) => return Walk::Stop,
             Spot::Over(past) => {
-                let pos = heads::put_mark(SEQUENCE_END, 0, out, t.pos);
+                let pos = heads::put_mark(layout::SEQUENCE_END, 0, out, t.pos);
                 let u = at_place(t, pos);
                 return Walk::To(past, u);
             }
@@ -560,7 +551,7 @@ fn item<'a>(
     requires { ⌜ (now rows ≡ table) × (0 < depth) × (body ≤ stop) × (stop ≤ length (now s)) × (length (now root) ≤ 59) × (start .used ≤ slotsOf (now ledger)) × (start .pos + 256 * (stop - body) + 1056 < 2 ^ 63) × (met start + (stop - body) < 2 ^ 63) ⌝ }
     ensures { λ r. ⌜ Wrote (ItemPass options days (now (root .entry)) (now (study .entry)) (now (site .entry)) (now (s .entry)) body stop marked (depth - 1)) body stop 1056 0 (now (out .entry)) (now (out .exit)) (now (ledger .entry)) (now (ledger .exit)) start r ⌝ }
 {
-    let pos = heads::put_mark(ITEM, UNDEFINED, out, start.pos);
+    let pos = heads::put_mark(layout::ITEM, layout::UNDEFINED, out, start.pos);
     let t = at_place(start, pos);
     let q = elements(
         rows,
@@ -582,7 +573,7 @@ fn item<'a>(
     match q {
         Walk::Stop => Walk::Stop,
         Walk::To(past, u) => {
-            let after = heads::put_mark(ITEM_END, 0, out, u.pos);
+            let after = heads::put_mark(layout::ITEM_END, 0, out, u.pos);
             let v = at_place(u, after);
             Walk::To(past, v)
         }

@@ -4,10 +4,10 @@
 //! strike where it means something and `cases` knows which tags stand at the top level and which in items.
 
 use std::collections::BTreeSet;
-use std::sync::OnceLock;
 
 use crate::pieces::*;
 use crate::random::Random;
+use crate::tags;
 use crate::values::value;
 
 /// Items nest at most so deep.
@@ -60,17 +60,43 @@ pub struct DataSet {
     pub places: Vec<Place>,
 }
 
+/// What the elements of a data set are like.
+#[derive(Clone, Copy, Debug)]
+pub struct Taste {
+    /// One in so many elements has any VR; the others have the one that is usual for their tag.
+    pub any_vr: usize,
+    /// One in so many sequences that lead down has any tag; the others are walked into by an export.
+    pub any_spine: usize,
+    /// One in so many tags is one whose UIDs or dates an export looks at.
+    pub judged: usize,
+    /// How many elements there may be.
+    pub sizes: &'static [usize],
+}
+
+impl Taste {
+    /// For the shape: any VR on any tag.
+    pub const SHAPE: Taste = Taste { any_vr: 1, any_spine: 1, judged: 50, sizes: &[10, 30, 30, 60, 60, 500] };
+    /// For exports: mostly what an archive would hold, so that most of them succeed.
+    pub const EXPORT: Taste =
+        Taste { any_vr: 60, any_spine: 4, judged: 5, sizes: &[5, 10, 20, 30, 40, 40, 200] };
+}
+
 impl DataSet {
-    /// A data set that is accepted: at most 8 items deep, often right so deep.
-    pub fn well_formed(random: &mut Random) -> DataSet {
+    /// A data set whose shape is accepted: at most 8 items deep, often right so deep.
+    pub fn well_formed(random: &mut Random, taste: Taste) -> DataSet {
         let spine = random.pick(&[0, 0, 0, 0, 1, 1, 2, 3, 4, 5, 6, 7, DEEPEST, DEEPEST]);
-        Maker::make(random, spine)
+        Maker::make(random, spine, taste)
     }
 
-    /// A data set whose only fault is an item 9 deep; another one may stand in it.
-    pub fn too_deep(random: &mut Random) -> DataSet {
+    /// A data set that does not go down on purpose.
+    pub fn flat(random: &mut Random, taste: Taste) -> DataSet {
+        Maker::make(random, 0, taste)
+    }
+
+    /// A data set whose only fault of shape is an item 9 deep; another one may stand in it.
+    pub fn too_deep(random: &mut Random, taste: Taste) -> DataSet {
         let spine = DEEPEST + 1 + random.below(2);
-        Maker::make(random, spine)
+        Maker::make(random, spine, taste)
     }
 
     /// The item at fault in a data set that is too deep.
@@ -100,44 +126,10 @@ impl DataSet {
     }
 }
 
-/// The tags of the action table that an element may have (A17: some of the table's can never be met).
-fn table_tags() -> &'static [u32] {
-    static TAGS: OnceLock<Vec<u32>> = OnceLock::new();
-    TAGS.get_or_init(|| {
-        let table = include_str!("../../../data/table-e1-1.tsv");
-        let tags = table.lines().filter_map(|line| single_tag(line.split('\t').nth(1)?));
-        tags.filter(|tag| (FIRST_TAG..=LAST_TAG).contains(tag)).collect()
-    })
-}
-
-/// Reads "(0010,0010)". The heading and the repeating lines are none.
-fn single_tag(text: &str) -> Option<u32> {
-    let (group, element) = text.strip_prefix('(')?.strip_suffix(')')?.split_once(',')?;
-    Some(u32::from_str_radix(group, 16).ok()? << 16 | u32::from_str_radix(element, 16).ok()?)
-}
-
-/// Any tag that an element may have, of every kind that document 01 speaks of.
-pub fn allowed_tag(random: &mut Random) -> u32 {
-    let any = random.below(0x1_0000) as u32;
-    let element = random.pick(&[0, 1, 0x10, 0x1010, 0x3000, 0x4000, 0xFFFF, any]);
-    let tag = match random.below(12) {
-        0..=4 => random.pick(table_tags()),
-        // private
-        5 => (2 * random.below(0x8000) as u32 + 1) << 16 | element,
-        // curves and overlays, the odd groups between them too
-        6 => (0x5000 + random.below(0x100) as u32) << 16 | element,
-        7 => (0x6000 + random.below(0x100) as u32) << 16 | element,
-        8 => random.pick(table_tags()) & 0xFFFF_0000 | element,
-        9 => random.pick(&[0x0012_0062, 0x0012_0063, 0x0012_0064, 0x0028_0303, 0x7FE0_0010]),
-        10 => random.pick(&[FIRST_TAG, LAST_TAG, FIRST_TAG + 1, 0x0009_0000, 0xFFFC_0000, 0xFFFD_0000]),
-        _ => random.number() as u32,
-    };
-    tag.clamp(FIRST_TAG, LAST_TAG)
-}
-
 /// Writes a data set front to back.
 struct Maker<'r> {
     random: &'r mut Random,
+    taste: Taste,
     set: DataSet,
     /// Tags that are liked on every level, so that one tag stands at the top level and in items.
     liked: [u32; 6],
@@ -147,10 +139,10 @@ struct Maker<'r> {
 
 impl Maker<'_> {
     /// A data set with items at least `spine` deep, and deeper than 8 only along the spine.
-    fn make(random: &mut Random, spine: usize) -> DataSet {
-        let liked = std::array::from_fn(|_| allowed_tag(random));
-        let left = random.pick(&[10, 30, 30, 60, 60, 500]);
-        let mut maker = Maker { random, set: DataSet::default(), liked, left };
+    fn make(random: &mut Random, spine: usize, taste: Taste) -> DataSet {
+        let liked = std::array::from_fn(|_| tags::any(random));
+        let left = random.pick(taste.sizes);
+        let mut maker = Maker { random, taste, set: DataSet::default(), liked, left };
         maker.level(None, 0, spine);
         maker.set
     }
@@ -165,35 +157,62 @@ impl Maker<'_> {
         };
         let count = wanted.min(self.left);
         self.left -= count;
-        let tags = self.rising_tags(count.max(usize::from(depth < spine)));
-        let on_spine = if depth < spine { self.random.below(tags.len()) } else { usize::MAX };
-        for (index, &tag) in tags.iter().enumerate() {
-            if index == on_spine {
+        let mut tags = self.rising_tags(count);
+        let on_spine = (depth < spine).then(|| self.spine_tag(&mut tags));
+        for tag in tags {
+            if Some(tag) == on_spine {
                 self.sequence(tag, container, depth, spine);
-            } else if self.random.one_in(8) {
-                self.sequence(tag, container, depth, 0);
-            } else {
-                self.value(tag, container);
+                continue;
+            }
+            match self.vr(tag) {
+                "SQ" => self.sequence(tag, container, depth, 0),
+                vr => self.value(tag, vr, container),
+            }
+        }
+    }
+
+    /// Sees that there is a tag for the sequence that leads down.
+    fn spine_tag(&mut self, tags: &mut Vec<u32>) -> u32 {
+        let any = self.random.one_in(self.taste.any_spine);
+        if any && !tags.is_empty() {
+            return self.random.pick(tags);
+        }
+        let tag = if any { tags::any(self.random) } else { tags::walked(self.random) };
+        if let Err(place) = tags.binary_search(&tag) {
+            tags.insert(place, tag);
+        }
+        tag
+    }
+
+    fn vr(&mut self, tag: u32) -> &'static str {
+        match tags::usual_vr(tag) {
+            Some(vr) if !self.random.one_in(self.taste.any_vr) => vr,
+            _ if self.random.one_in(8) => "SQ",
+            _ => {
+                let at_any = self.random.below(SHORT_VRS.len() + LONG_VRS.len());
+                SHORT_VRS.iter().chain(&LONG_VRS).nth(at_any).expect("one of them")
             }
         }
     }
 
     fn rising_tags(&mut self, count: usize) -> Vec<u32> {
         if self.random.one_in(20) {
-            let first = allowed_tag(self.random).min(LAST_TAG - 1000);
+            let first = tags::any(self.random).min(LAST_TAG - 1000);
             return (first..).take(count).collect();
         }
         let mut tags = BTreeSet::new();
         while tags.len() < count {
             let liked = self.random.one_in(4) && tags.len() < self.liked.len();
-            tags.insert(if liked { self.random.pick(&self.liked) } else { allowed_tag(self.random) });
+            tags.insert(match liked {
+                true => self.random.pick(&self.liked),
+                false if self.random.one_in(self.taste.judged) => tags::judged(self.random),
+                false => tags::any(self.random),
+            });
         }
         tags.into_iter().collect()
     }
 
-    fn value(&mut self, tag: u32, container: Option<usize>) {
-        let at_any = self.random.below(SHORT_VRS.len() + LONG_VRS.len());
-        let vr = SHORT_VRS.iter().chain(&LONG_VRS).nth(at_any).expect("one of them");
+    fn value(&mut self, tag: u32, vr: &str, container: Option<usize>) {
         let value = value(vr, self.random);
         let place = self.begin(Kind::Value, container, false, &head(tag, vr, value.len() as u32));
         self.set.bytes.extend(value);
@@ -247,4 +266,33 @@ impl Maker<'_> {
         }
         self.set.places[place].end = self.set.bytes.len();
     }
+}
+
+/// A short row of bytes without order, or of pieces without order.
+pub fn rubble(random: &mut Random) -> Bytes {
+    if random.one_in(2) { random_bytes(random) } else { random_pieces(random) }
+}
+
+fn random_bytes(random: &mut Random) -> Bytes {
+    let size = random.below(40);
+    random.bytes(size)
+}
+
+fn random_pieces(random: &mut Random) -> Bytes {
+    let mut data = Bytes::new();
+    let mut tag = FIRST_TAG;
+    for _ in 0..random.below(14) {
+        tag += random.below(3) as u32;
+        let length = random.pick(&[0, 0, 2, 8, 20, 28, 1, UNDEFINED, UNDEFINED]);
+        let vr = random.pick(&["SQ", "SQ", "SQ", "OB", "UN", "CS", "UI", "US", "XX"]);
+        data.extend(match random.below(8) {
+            0 | 1 => head(tag, vr, length),
+            2 | 3 => mark(ITEM, length),
+            4 => mark(ITEM_END, random.pick(&[0, 0, 0, 2])),
+            5 => mark(SEQUENCE_END, random.pick(&[0, 0, 0, 2])),
+            6 => element(tag, "CS", "AB"),
+            _ => vec![0; random.below(3)],
+        });
+    }
+    data
 }

@@ -1,54 +1,62 @@
-//! Compares the proved library with the second program (`host/reference`) on data sets that are generated,
+//! Compares the proved library with the second program (`host/reference`) on inputs that are generated,
 //! damaged and made by hand. Exit status 1 where they differ anywhere, or where an answer that must come up
 //! never does; 2 for a wrong call.
 //!
 //! ```text
 //! compare                   the gate's run
-//! compare --long N [FROM]   the same with N data sets, from the seed FROM on
+//! compare --long N [FROM]   the same with N seeds of each kind, from the seed FROM on, and all actions
 //! compare --seed S          one seed, told in full
-//! compare --planted NAME    the gate's run against a view with a planted fault: it must differ
+//! compare --planted NAME    the gate's run against a program with a planted fault: it must differ
 //! compare --planted all     every planted fault, and what sees it; exit status 1 if one is not seen
 //! ```
 //!
 //! | module | subject |
 //! |---|---|
-//! | `library` | the C boundary, and what is trusted there |
-//! | `random`, `pieces`, `values` | what data sets are made of |
-//! | `generate` | well-formed data sets from seeds |
+//! | `random`, `pieces`, `tags`, `values` | what data sets are made of |
+//! | `generate` | data sets from seeds |
 //! | `damage` | what can be wrong with them |
-//! | `edges` | data sets made by hand, with the answers that the readings give |
-//! | `cases` | what a seed gives: a data set, how it is lent, the tags asked for |
+//! | `lent` | how they are lent |
 //! | `view` | the comparison of view answers |
-//! | `planted` | wrong views, to see the comparison fail |
+//! | `export` | the comparison of exports |
+//! | `demand3` | pairs of batches with equal and with other kept content |
+//! | `fates`, `action` | what is done with one element, and the comparison of the library's answers about it |
+//! | `planted` | wrong programs, to see the comparison fail |
 //! | `shrink` | a smaller data set with the same difference |
-//!
-//! The comparison of exports is to come: a module `deidentify` beside `view`, its wrapper in `library`.
 
-mod cases;
+mod action;
 mod damage;
-mod edges;
+mod demand3;
+mod export;
+mod fates;
 mod generate;
-mod library;
+mod lent;
 mod pieces;
 mod planted;
 mod random;
 mod shrink;
-#[cfg(test)]
-mod tests;
+mod tags;
 mod values;
 mod view;
 
 use std::env;
 use std::process::ExitCode;
 
-use cases::Case;
-use planted::Fault;
-use view::{Comparison, View};
+/// How much one run compares.
+struct Extent {
+    /// The first seed.
+    from: u64,
+    /// How many seeds for views.
+    views: u64,
+    /// How many seeds for exports; each gives one run or a batch.
+    exports: u64,
+    /// How many seeds for demand 3; each gives up to four pairs of batches.
+    pairs: u64,
+    /// One in so many questions about actions is asked.
+    every: usize,
+}
 
-/// How many data sets the gate's run takes from seeds.
-const GATE: u64 = 100_000;
-/// How many of them each planted fault is tried with.
-const PLANTED: u64 = 20_000;
+/// What the gate compares.
+const GATE: Extent = Extent { from: 0, views: 40_000, exports: 80_000, pairs: 4_000, every: 11 };
 
 fn main() -> ExitCode {
     let words: Vec<String> = env::args().skip(1).collect();
@@ -58,7 +66,10 @@ fn main() -> ExitCode {
         Some(false) => ExitCode::from(1),
         None => {
             eprintln!("usage: compare [--long N [FROM] | --seed S | --planted NAME | --planted all]");
-            eprintln!("planted faults: {}", planted::ALL.map(|fault| fault.name).join(" "));
+            eprintln!(
+                "planted faults: {}",
+                planted::all().map(|fault| fault.0).collect::<Vec<_>>().join(" ")
+            );
             ExitCode::from(2)
         }
     }
@@ -67,72 +78,76 @@ fn main() -> ExitCode {
 /// Does what the words ask for and says whether all was as it must be; none for words that ask for nothing.
 fn answer_to(words: &[&str]) -> Option<bool> {
     let number = |word: &str| word.parse::<u64>().ok();
+    let long = |count, from| Extent { from, views: count, exports: count, pairs: count / 10, every: 1 };
+    let proved = (view::proved as view::View, export::proved as export::Station);
     Some(match *words {
-        [] => run(view::proved, 0, GATE),
-        ["--long", count] => run(view::proved, 0, number(count)?),
-        ["--long", count, from] => run(view::proved, number(from)?, number(count)?),
+        [] => run(proved, &GATE),
+        ["--long", count] => run(proved, &long(number(count)?, 0)),
+        ["--long", count, from] => run(proved, &long(number(count)?, number(from)?)),
         ["--seed", seed] => one_seed(number(seed)?),
-        ["--planted", "all"] => all_planted(),
-        ["--planted", name] => run(planted::ALL.iter().find(|fault| fault.name == name)?.view, 0, GATE),
+        ["--planted", "all"] => planted::try_all(),
+        ["--planted", name] => run(planted::named(name)?, &GATE),
         _ => return None,
     })
 }
 
-/// The edges, the longest data sets, and those of `count` seeds.
-fn run(view: View, from: u64, count: u64) -> bool {
-    let mut comparison = Comparison::new(view);
-    comparison.edges();
-    comparison.longest();
-    (from..from.saturating_add(count)).for_each(|seed| comparison.seed(seed));
-    comparison.print_differences();
-    let counts = &comparison.counts;
-    counts.print();
-    let lacks_something = counts.lacks_something();
-    println!("compare: {} cases, {} differ", counts.cases, counts.differ);
-    counts.differ == 0 && !lacks_something
+/// The edges, the longest data sets, those of seeds, pairs of batches, and actions. True if nothing differs and
+/// everything came up that must.
+fn run((view, station): (view::View, export::Station), extent: &Extent) -> bool {
+    let seeds = |count: u64| (extent.from..extent.from.saturating_add(count)).inspect(|seed| tell(*seed));
+    let mut views = view::Comparison::new(view);
+    views.edges();
+    views.longest();
+    seeds(extent.views).for_each(|seed| views.seed(seed));
+    views.print_differences();
+    views.counts.print();
+
+    let mut exports = export::comparison::Comparison::new(station);
+    exports.edges();
+    exports.longest();
+    seeds(extent.exports).for_each(|seed| exports.seed(seed));
+    let mut pairs = demand3::Pairs::default();
+    seeds(extent.pairs).for_each(|seed| pairs.seed(seed, &mut exports));
+    exports.print_differences();
+    exports.counts.print();
+    pairs.print();
+
+    let actions = action::Actions::compare(library::action, extent.every);
+    actions.print();
+
+    let lacking = [
+        views.counts.lacks_something(),
+        exports.counts.lacks_something(),
+        pairs.lacks_something(),
+        actions.lacks_something(),
+    ];
+    let cases = views.counts.cases + exports.counts.runs + actions.cases;
+    let differ = views.counts.differ + exports.counts.differ + pairs.wrong + actions.differ;
+    println!("compare: {cases} cases, {differ} differ");
+    differ == 0 && !lacking.contains(&true)
 }
 
+/// A sign of life in a long run.
+fn tell(seed: u64) {
+    if seed > 0 && seed.is_multiple_of(100_000) {
+        eprintln!("compare: at seed {seed}");
+    }
+}
+
+/// Everything about one seed.
 fn one_seed(seed: u64) -> bool {
-    let case = Case::of_seed(seed);
-    println!("seed {seed}: {}, {} bytes", case.made, case.lent.data().len());
-    println!("{}", view::hex(case.lent.data()));
-    println!("behind it: {}", view::hex(case.lent.behind()));
-    for tag in case.tags {
-        println!("tag {tag:08X}");
-        println!("  proved   {}", view::proved(&case.lent, tag));
-        println!("  expected {}", view::expected(case.lent.data(), tag));
-    }
-    let mut comparison = Comparison::new(view::proved);
-    comparison.seed(seed);
-    comparison.print_differences();
-    println!("compare: {} cases, {} differ", comparison.counts.cases, comparison.counts.differ);
-    comparison.counts.differ == 0
-}
-
-/// Tries each planted fault twice, with the data sets made by hand and with those of seeds, each up to the
-/// first difference.
-fn all_planted() -> bool {
-    let mut seen = 0;
-    for Fault { name, what, view } in planted::ALL {
-        let mut by_hand = Comparison::up_to_first(view);
-        by_hand.edges();
-        by_hand.longest();
-        let mut by_seed = Comparison::up_to_first(view);
-        for seed in 0..PLANTED {
-            by_seed.seed(seed);
-            if by_seed.is_over() {
-                break;
-            }
-        }
-        let first = |comparison: &Comparison| match &comparison.differences[..] {
-            [first, ..] => format!("{} (case {})", first.from, comparison.counts.cases),
-            [] => "-".into(),
-        };
-        seen += usize::from(by_hand.is_over() || by_seed.is_over());
-        println!("{name}: {what}");
-        println!("    by hand: {}", first(&by_hand));
-        println!("    by seed: {}", first(&by_seed));
-    }
-    println!("planted: {} faults, {seen} seen", planted::ALL.len());
-    seen == planted::ALL.len()
+    view::print_seed(seed);
+    export::comparison::print_seed(seed);
+    let mut views = view::Comparison::new(view::proved);
+    views.seed(seed);
+    views.print_differences();
+    let mut exports = export::comparison::Comparison::new(export::proved);
+    exports.seed(seed);
+    let mut pairs = demand3::Pairs::default();
+    pairs.seed(seed, &mut exports);
+    exports.print_differences();
+    let cases = views.counts.cases + exports.counts.runs;
+    let differ = views.counts.differ + exports.counts.differ + pairs.wrong;
+    println!("compare: {cases} cases, {differ} differ");
+    differ == 0
 }

@@ -1,6 +1,6 @@
 //! A simple shrinker: drops bytes of a data set as long as what is wrong with it stays.
 
-use crate::cases::Lent;
+use crate::lent::Lent;
 
 /// How many bytes may be looked at, so that a long data set takes no more than some seconds.
 const WORK: usize = 1_000_000_000;

@@ -1,5 +1,5 @@
 -- `abi::corravisk_action` meets its contract. Assumes nothing.
-use mathlib.Core.Path.{_≡_, refl, ap, _∙_}
+use mathlib.Core.Path.{ap, _∙_}
 use mathlib.Core.List.{[], _∷_}
 use Rattle.abi.specs.Numbers.{codeOf}
 use borrow.Author.Needs.{needs}

@@ -11,13 +11,13 @@ put-mark-requires : tie.Need-put-mark-requires
 put-mark-requires c κs = search needs
 
 put-text-requires : tie.Need-put-text-requires
-put-text-requires c κs = (sh-short, omega (arith, c .before .before .before .put-mark .ensures .0))
+put-text-requires c κs = omega (arith, c .before .before .before .put-mark .ensures .0)
 
 slice-aggregate-put-text : tie.Need-slice-aggregate-put-text
 slice-aggregate-put-text c = search needs
 
 put-text-requires-2 : tie.Need-put-text-requires-2
-put-text-requires-2 c κs = (sh-short, omega (arith, c .before .before .before .before .before .before .before .before .put-mark .ensures .0, c .before .before .before .before .put-text .ensures .0, text-length 0x0008_0100 0x4853 (c .before .before .before .before .before .before .before .before .before .before .before .before .args .code .now) sh-short, spaced-length (c .before .before .before .before .before .before .before .before .before .before .before .before .args .code .now)))
+put-text-requires-2 c κs = omega (arith, c .before .before .before .before .before .before .before .before .put-mark .ensures .0, c .before .before .before .before .put-text .ensures .0, text-length 0x0008_0100 0x4853 (c .before .before .before .before .before .before .before .before .before .before .before .before .args .code .now) sh-short, spaced-length (c .before .before .before .before .before .before .before .before .before .before .before .before .args .code .now))
 
 same-length : tie.Need-same-length
 same-length c = search needs

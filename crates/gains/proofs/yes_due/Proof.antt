@@ -4,7 +4,6 @@ use Rattle.kept.specs.Marks.{text}
 use Rattle.vr.specs.Names.{CS}
 use Rattle.gains.specs.Gains.{yesTag}
 use Rattle.gains.proofs.PutLaws.{due-below, due-above, due-in}
-use Rattle.gains.proofs.PartLaws.{cs-short}
 use native.Mathlib.Omega.{arith}
 use borrow.Author.Needs.{needs}
 use Rattle.gains.proofs.yes_due.Statement.{statement}
@@ -20,7 +19,7 @@ slice-aggregate-put-text : tie.Need-slice-aggregate-put-text
 slice-aggregate-put-text c = search needs
 
 put-text-requires : tie.Need-put-text-requires
-put-text-requires c κs = (cs-short, omega arith)
+put-text-requires c κs = omega arith
 
 same-length : tie.Need-same-length
 same-length c = search needs

@@ -7,37 +7,22 @@ use Rattle.station.specs.Entry.{inputOf}
 use Rattle.station.proofs.EarlyLaws.{not-early, days-are}
 use Rattle.station.proofs.OrderLaws.{early-for}
 use Rattle.station.proofs.RunLaws.{refused-early, refused-judged, counted, walk-right}
-use native.Mathlib.Omega.{arith}
 use borrow.Author.Needs.{needs}
 use Rattle.station.proofs.deidentify.Statement.{statement}
 use Rattle.station.proofs.deidentify.Tie as tie
-use Rattle.station.proofs.deidentify.Reads as reads
-use Rattle.station.proofs.deidentify.Lts as lts
-use Rattle.options.proofs.days_of.Reads as days-of-reads
-use Rattle.station.proofs.early_refusal.Reads as early-refusal-reads
-use Rattle.station.proofs.finish.Reads as finish-reads
-use Rattle.station.proofs.judge.Reads as judge-reads
-use Rattle.station.proofs.refuse.Reads as refuse-reads
-use Rattle.table.proofs.rows.Reads as rows-reads
-use Rattle.write.proofs.write.Reads as write-reads
 
--- src/lib.rt:131:9
 early-refusal-requires : tie.Need-early-refusal-requires
 early-refusal-requires c κs = search needs
 
--- src/lib.rt:133:9
 refuse-requires : tie.Need-refuse-requires
 refuse-requires c κs = search needs
 
--- src/lib.rt:133:9
 same-length : tie.Need-same-length
 same-length c = search needs
 
--- src/lib.rt:133:9
 same-length-2 : tie.Need-same-length-2
 same-length-2 c = search needs
 
--- src/lib.rt:133:9
 returns : tie.Need-returns
 returns c =
     let a = c .before .before .before .before .before .before .before .before .before .before .before .before .before .before .before .before .args in
@@ -47,45 +32,35 @@ returns c =
     let x = refused-early i (a .out .now) refl _ (early-for i (toZ-ofZ (c .before .before .before .before .before .before .before .before .before .before .before .before .before .before .before .before .fits .shift)) early) (c .before .before .before .before .before .before .before .if1 .taken) (left .0) (left .1 .0) (left .1 .1) in
     (x .told, (x .output, x .ledger))
 
--- src/lib.rt:135:9
 days-of-requires : tie.Need-days-of-requires
 days-of-requires c κs = not-early _ _ _ _ _ _ _ _ _ (c .before .early-refusal .ensures) (c .if1 .left) .days
 
--- src/lib.rt:136:16
 rows-requires : tie.Need-rows-requires
 rows-requires c κs = search needs
 
--- src/lib.rt:137:24
 slice-aggregate-judge : tie.Need-slice-aggregate-judge
 slice-aggregate-judge c = search needs
 
--- src/lib.rt:137:9
 judge-requires : tie.Need-judge-requires
 judge-requires c κs = search needs
 
--- src/lib.rt:139:22
 enum-known-judged : tie.Need-enum-known-judged
 enum-known-judged c = search needs
 
--- src/lib.rt:139:31
 refuse-requires-2 : tie.Need-refuse-requires-2
 refuse-requires-2 c κs = search needs
 
--- src/lib.rt:142:17
 enum-told : tie.Need-enum-told
 enum-told c = search needs
 
--- src/lib.rt:142:17
 slice-aggregate-write : tie.Need-slice-aggregate-write
 slice-aggregate-write c = search needs
 
--- src/lib.rt:141:17
 write-requires : tie.Need-write-requires
 write-requires c κs =
     let e = not-early _ _ _ _ _ _ _ _ _ (c .before .before .before .before .before .before .before .before .before .before .early-refusal .ensures) (c .before .before .before .before .before .before .before .before .before .if1 .left) in
     (c .before .before .before .before .before .before .before .rows .ensures, e .short, e .root-fits, e .slots)
 
--- src/lib.rt:153:13
 finish-requires : tie.Need-finish-requires
 finish-requires c κs =
     let a = c .before .before .before .before .before .before .before .before .before .before .before .before .before .before .before .before .before .before .before .before .before .before .before .before .before .args in
@@ -96,15 +71,12 @@ finish-requires c κs =
     let e = not-early _ _ _ _ _ _ _ _ _ early none in
     counted i (a .out .now) refl _ (early-for i shift early) none (days-are shift (e .days) (c .before .before .before .before .before .before .before .before .before .before .before .before .before .before .before .days-of .ensures)) (c .before .before .before .before .before .before .before .before .before .before .before .before .judge .ensures) _ (c .before .before .before .before .before .before .before .before .before .before .enum-told .given .1) (e .slots) (c .before .before .before .before .before .before .write .ensures)
 
--- src/lib.rt:116:1
 same-length-3 : tie.Need-same-length-3
 same-length-3 c = search needs
 
--- src/lib.rt:116:1
 same-length-4 : tie.Need-same-length-4
 same-length-4 c = search needs
 
--- src/lib.rt:116:1
 returns-2 : tie.Need-returns-2
 returns-2 c =
     let a = c .before .before .before .before .before .before .before .before .before .before .before .before .before .before .before .before .before .before .before .before .before .before .before .args in
@@ -117,15 +89,12 @@ returns-2 c =
     let x = refused-judged i (a .out .now) refl _ (early-for i shift early) none (days-are shift (e .days) (c .before .before .before .before .before .before .before .before .before .before .before .before .before .days-of .ensures)) (c .before .before .before .before .before .before .before .before .before .before .judge .ensures) _ _ (c .before .before .before .before .before .before .before .before .judged .given .1) (left .0) (left .1 .0) (left .1 .1) in
     (x .told, (x .output, x .ledger))
 
--- src/lib.rt:116:1
 same-length-5 : tie.Need-same-length-5
 same-length-5 c = search needs
 
--- src/lib.rt:116:1
 same-length-6 : tie.Need-same-length-6
 same-length-6 c = search needs
 
--- src/lib.rt:116:1
 returns-3 : tie.Need-returns-3
 returns-3 c =
     let a = c .before .before .before .before .before .before .before .before .before .before .before .before .before .before .before .before .before .before .before .before .before .before .before .before .before .before .before .before .before .before .args in

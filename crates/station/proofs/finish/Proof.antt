@@ -1,73 +1,52 @@
 -- `station::finish` meets its contract. Assumes nothing.
-use mathlib.Core.Path.{_≡_, refl}
+use mathlib.Core.Path.{refl}
 use Rattle.station.proofs.FinishLaws.{no-slot, no-room, all-well, few-bytes}
-use native.Mathlib.Omega.{arith}
 use borrow.Author.Needs.{needs}
 use Rattle.station.proofs.finish.Statement.{statement}
 use Rattle.station.proofs.finish.Tie as tie
-use Rattle.station.proofs.finish.Reads as reads
-use Rattle.station.proofs.finish.Lts as lts
-use Rattle.buffer.proofs.zero_from.Reads as zero-from-reads
-use Rattle.ledger.proofs.zero_rest.Reads as zero-rest-reads
-use Rattle.station.proofs.refuse.Reads as refuse-reads
 
--- src/lib.rt:102:42
 enum-told : tie.Need-enum-told
 enum-told c = search needs
 
--- src/lib.rt:102:23
 refuse-requires : tie.Need-refuse-requires
 refuse-requires c κs = search needs
 
--- src/lib.rt:103:21
 enum-known-walk : tie.Need-enum-known-walk
 enum-known-walk c = search needs
 
--- src/lib.rt:106:17
 refuse-requires-2 : tie.Need-refuse-requires-2
 refuse-requires-2 c κs = search needs
 
--- src/lib.rt:106:17
 same-length : tie.Need-same-length
 same-length c = search needs
 
--- src/lib.rt:106:17
 same-length-2 : tie.Need-same-length-2
 same-length-2 c = search needs
 
--- src/lib.rt:106:17
 returns : tie.Need-returns
 returns c = no-room (c .before .before .before .before .before .before .before .before .before .before .before .before .before .args .out .now) (c .before .before .before .before .before .before .before .before .before .before .before .before .before .args .ledger .now) (c .before .before .before .before .before .before .before .before .before .before .before .before .before .args .used) _ _ (c .before .before .before .before .before .before .before .before .before .walk .given .1) (c .before .before .before .before .before .before .before .if1 .taken) (c .before .before .before .before .refuse2 .ensures .0) (c .before .before .before .before .refuse2 .ensures .1 .0) (c .before .before .before .before .refuse2 .ensures .1 .1)
 
--- src/lib.rt:108:13
 zero-from-requires : tie.Need-zero-from-requires
 zero-from-requires c κs = search needs
 
--- src/lib.rt:109:13
 zero-rest-requires : tie.Need-zero-rest-requires
 zero-rest-requires c κs = few-bytes _ _ _ (c .before .before .before .before .before .before .before .walk .given .1) (c .before .before .before .before .before .before .before .before .before .before .before .pre)
 
--- src/lib.rt:95:1
 same-length-3 : tie.Need-same-length-3
 same-length-3 c = search needs
 
--- src/lib.rt:95:1
 same-length-4 : tie.Need-same-length-4
 same-length-4 c = search needs
 
--- src/lib.rt:95:1
 returns-2 : tie.Need-returns-2
 returns-2 c = no-slot (c .before .before .before .before .before .before .before .before .before .before .before .args .out .now) (c .before .before .before .before .before .before .before .before .before .before .before .args .ledger .now) (c .before .before .before .before .before .before .before .before .before .before .before .args .used) (c .before .before .before .before .before .before .before .enum-told .given .1) (c .before .before .before .before .refuse .ensures .0) (c .before .before .before .before .refuse .ensures .1 .0) (c .before .before .before .before .refuse .ensures .1 .1)
 
--- src/lib.rt:95:1
 same-length-5 : tie.Need-same-length-5
 same-length-5 c = search needs
 
--- src/lib.rt:95:1
 same-length-6 : tie.Need-same-length-6
 same-length-6 c = search needs
 
--- src/lib.rt:95:1
 returns-3 : tie.Need-returns-3
 returns-3 c = all-well (c .before .before .before .before .before .before .before .before .before .before .before .before .before .before .args .out .now) (c .before .before .before .before .before .before .before .before .before .before .before .before .before .before .args .ledger .now) (c .before .before .before .before .before .before .before .before .before .before .before .before .before .before .args .used) _ _ (c .before .before .before .before .before .before .before .before .before .before .walk .given .1) (c .before .before .before .before .before .before .before .before .if1 .left) refl (c .before .before .before .before .before .before .zero-from .ensures) (c .before .before .zero-rest .ensures)
 

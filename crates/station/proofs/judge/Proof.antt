@@ -1,37 +1,25 @@
 -- `station::judge` meets its contract. Assumes nothing.
-use mathlib.Core.Path.{_≡_}
 use mir.Facts.{toZ-ofZ}
 use Rattle.station.proofs.JudgeLaws.{judged-shape, judged-values}
-use native.Mathlib.Omega.{arith}
 use borrow.Author.Needs.{needs}
 use Rattle.station.proofs.judge.Statement.{statement}
 use Rattle.station.proofs.judge.Tie as tie
-use Rattle.station.proofs.judge.Reads as reads
-use Rattle.station.proofs.judge.Lts as lts
-use Rattle.layout.proofs.shape_of.Reads as shape-of-reads
-use Rattle.values.proofs.first_fault.Reads as first-fault-reads
 
--- src/lib.rt:74:9
 shape-of-requires : tie.Need-shape-of-requires
 shape-of-requires c κs = search needs
 
--- src/lib.rt:76:22
 enum-known-shape : tie.Need-enum-known-shape
 enum-known-shape c = search needs
 
--- src/lib.rt:77:27
 enum-told : tie.Need-enum-told
 enum-told c = search needs
 
--- src/lib.rt:77:27
 first-fault-requires : tie.Need-first-fault-requires
 first-fault-requires c κs = search needs
 
--- src/lib.rt:70:1
 returns : tie.Need-returns
 returns c = judged-shape _ _ _ _ (c .before .before .before .shape-of .ensures) _ _ (c .before .shape .given .1)
 
--- src/lib.rt:70:1
 returns-2 : tie.Need-returns-2
 returns-2 c = judged-values _ _ _ _ (c .before .before .before .shape-of .ensures) _ (c .before .enum-told .given .1) _ (toZ-ofZ (c .before .before .before .before .before .before .fits .days)) (c .first-fault .ensures)
 

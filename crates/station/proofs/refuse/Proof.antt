@@ -1,49 +1,35 @@
 -- `station::refuse` meets its contract. Assumes nothing.
-use mathlib.Core.Path.{_≡_, refl, sym, ap, _∙_}
+use mathlib.Core.Path.{refl, _∙_}
 use Rattle.station.proofs.LeftLaws.{cleared-zeroed, left-whole, left-cleared}
 use native.Mathlib.Omega.{arith}
 use borrow.Author.Needs.{needs}
 use Rattle.station.proofs.refuse.Statement.{statement}
 use Rattle.station.proofs.refuse.Tie as tie
-use Rattle.station.proofs.refuse.Reads as reads
-use Rattle.station.proofs.refuse.Lts as lts
-use Rattle.buffer.proofs.zero_from.Reads as zero-from-reads
-use Rattle.ledger.proofs.slots.Reads as slots-reads
-use Rattle.ledger.proofs.zero_rest.Reads as zero-rest-reads
 
--- src/lib.rt:87:5
 zero-from-requires : tie.Need-zero-from-requires
 zero-from-requires c κs = search needs
 
--- src/lib.rt:88:16
 slots-requires : tie.Need-slots-requires
 slots-requires c κs = search needs
 
--- src/lib.rt:89:9
 zero-rest-requires : tie.Need-zero-rest-requires
 zero-rest-requires c κs = search needs
 
--- src/lib.rt:82:1
 same-length : tie.Need-same-length
 same-length c = search needs
 
--- src/lib.rt:82:1
 same-length-2 : tie.Need-same-length-2
 same-length-2 c = search needs
 
--- src/lib.rt:82:1
 returns : tie.Need-returns
 returns c = (refl, (c .before .before .before .before .before .before .before .before .before .zero-from .ensures ∙ cleared-zeroed _, c .before .before .zero-rest .ensures ∙ left-cleared _ _ (omega (arith, c .before .before .before .before .before .slots .ensures, c .before .before .before .before .if1 .taken))))
 
--- src/lib.rt:82:1
 same-length-3 : tie.Need-same-length-3
 same-length-3 c = search needs
 
--- src/lib.rt:82:1
 same-length-4 : tie.Need-same-length-4
 same-length-4 c = search needs
 
--- src/lib.rt:82:1
 returns-2 : tie.Need-returns-2
 returns-2 c = (refl, (c .before .before .before .before .before .zero-from .ensures ∙ cleared-zeroed _, left-whole _ _ (omega (arith, c .before .slots .ensures, c .if1 .left))))
 

@@ -1,48 +1,24 @@
 //! The comparison of view answers: all five numbers, on every data set and tag.
 
-use std::fmt;
+pub mod cases;
+pub mod edges;
+pub mod planted;
+#[cfg(test)]
+mod tests;
 
-use crate::cases::{Case, Lent};
-use crate::edges::{self, Edge};
-use crate::library;
+use cases::Case;
+use edges::Edge;
+pub use library::Answer;
+
+use crate::lent::Lent;
 use crate::shrink::shrunk;
-
-/// What a view answers, in the order of the C interface.
-#[derive(Clone, Copy, Debug, PartialEq, Eq)]
-pub struct Answer {
-    pub refusal: u64,
-    pub offset: u64,
-    pub found: u64,
-    pub start: u64,
-    pub length: u64,
-}
-
-impl Answer {
-    pub const ABSENT: Answer = Answer { refusal: 0, offset: 0, found: 0, start: 0, length: 0 };
-
-    pub fn refused(refusal: u64, offset: u64) -> Answer {
-        Answer { refusal, offset, ..Answer::ABSENT }
-    }
-
-    pub fn found(start: u64, length: u64) -> Answer {
-        Answer { found: 1, start, length, ..Answer::ABSENT }
-    }
-}
-
-impl fmt::Display for Answer {
-    fn fmt(&self, to: &mut fmt::Formatter) -> fmt::Result {
-        let Answer { refusal, offset, found, start, length } = self;
-        write!(to, "refusal {refusal} offset {offset} found {found} start {start} length {length}")
-    }
-}
 
 /// A view that is compared with the second program's: the library's, or one with a planted fault.
 pub type View = fn(&Lent, u64) -> Answer;
 
 /// The proved library's.
 pub fn proved(lent: &Lent, tag: u64) -> Answer {
-    let [refusal, offset, found, start, length] = library::view(lent.data(), tag);
-    Answer { refusal, offset, found, start, length }
+    library::view(lent.data(), tag)
 }
 
 /// The second program's.
@@ -101,14 +77,14 @@ impl Counts {
 }
 
 /// A case where a view and the second program differ.
-pub struct Difference {
+struct Difference {
     /// The seed or the edge that it comes from, and how.
-    pub from: String,
+    from: String,
     /// The data set, unless it is too long to keep.
-    pub lent: Option<Lent>,
-    pub tag: u64,
-    pub given: Answer,
-    pub expected: Answer,
+    lent: Option<Lent>,
+    tag: u64,
+    given: Answer,
+    expected: Answer,
 }
 
 /// How many differences are shown; the others are counted.
@@ -122,7 +98,7 @@ pub struct Comparison {
     only_first: bool,
     pub counts: Counts,
     /// The first few, in order.
-    pub differences: Vec<Difference>,
+    differences: Vec<Difference>,
 }
 
 impl Comparison {
@@ -137,6 +113,11 @@ impl Comparison {
 
     pub fn is_over(&self) -> bool {
         self.only_first && self.counts.differ > 0
+    }
+
+    /// Where the first difference came from, and at which case.
+    pub fn first(&self) -> Option<String> {
+        self.differences.first().map(|first| format!("{} (case {})", first.from, self.counts.cases))
     }
 
     /// The data set of a seed, with each of its tags.
@@ -224,6 +205,19 @@ impl Comparison {
             println!("    given    {}", (self.view)(small, *tag));
             println!("    expected {}", expected(small.data(), *tag));
         }
+    }
+}
+
+/// The data set of a seed, and both answers to each of its tags.
+pub fn print_seed(seed: u64) {
+    let case = Case::of_seed(seed);
+    println!("view of seed {seed}: {}, {} bytes", case.made, case.lent.data().len());
+    println!("  {}", hex(case.lent.data()));
+    println!("  behind it: {}", hex(case.lent.behind()));
+    for tag in case.tags {
+        println!("  tag {tag:08X}");
+        println!("    proved   {}", proved(&case.lent, tag));
+        println!("    expected {}", expected(case.lent.data(), tag));
     }
 }
 

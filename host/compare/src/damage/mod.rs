@@ -4,11 +4,17 @@
 //! all containers around it true, so that the fault lies where it was put and not in the first length on the
 //! way there (F2, F3, F5).
 
-use std::ops::Range;
+mod odd;
+mod places;
 
-use crate::generate::{DataSet, Kind, Place, allowed_tag};
+use odd::{leftover, odd_bytes, odd_length, odd_tag, odd_vr};
+use places::*;
+
+use crate::generate::{DataSet, Kind, Place};
 use crate::pieces::*;
 use crate::random::Random;
+use crate::tags;
+use crate::values::odd_value;
 
 #[derive(Clone, Copy, Debug, PartialEq, Eq)]
 pub enum Damage {
@@ -50,9 +56,11 @@ pub enum Damage {
     Doubled,
     /// Two neighbours of one level in the other order.
     Exchanged,
+    /// UIDs or dates at an edge of their rule or past it; no fault of shape.
+    Value,
 }
 
-pub const ALL: [Damage; 19] = [
+pub const ALL: [Damage; 20] = [
     Damage::Cut,
     Damage::CutToFit,
     Damage::Bits,
@@ -72,6 +80,7 @@ pub const ALL: [Damage; 19] = [
     Damage::Leftover,
     Damage::Doubled,
     Damage::Exchanged,
+    Damage::Value,
 ];
 
 /// Does one damage of any kind that the data set has a place for.
@@ -147,8 +156,7 @@ impl Damage {
             }
             Damage::ItemTag => {
                 let place = any_place(set, random, |place| place.kind == Kind::Item)?;
-                let others =
-                    [ITEM_END, SEQUENCE_END, ITEM + 1, 0xFFFE_0000, 0xFFFF_E000, allowed_tag(random)];
+                let others = [ITEM_END, SEQUENCE_END, ITEM + 1, 0xFFFE_0000, 0xFFFF_E000, tags::any(random)];
                 write(set, place.at, &tag_bytes(random.pick(&others)));
             }
             Damage::Vr => {
@@ -206,218 +214,20 @@ impl Damage {
                     sibling(set, |place| place.at == first.end && place.container == first.container)?;
                 set.bytes.get_mut(first.at..second.end)?.rotate_left(first.end - first.at);
             }
+            Damage::Value => {
+                let is_judged = |bytes: &[u8], place: &Place| {
+                    let vr = vr_at(bytes, place.at);
+                    place.kind == Kind::Value && vr.is_some_and(|vr| matches!(&vr, b"UI" | b"DA" | b"DT"))
+                };
+                let place = any_place(set, random, |place| is_judged(&set.bytes, place))?;
+                let old = place.at + place.header..place.end;
+                let vr = vr_at(&set.bytes, place.at)?;
+                let new = odd_value(vr, set.bytes.get(old.clone())?, random);
+                keep_lengths_true(set, place.container, new.len() as i64 - old.len() as i64);
+                write_length(set, &place, new.len() as u32);
+                replace(set, old, &new);
+            }
         }
         Some(())
     }
-}
-
-/// An offset within the data set: half the time in a header or mark.
-fn any_offset(set: &DataSet, random: &mut Random) -> Option<usize> {
-    if set.bytes.is_empty() {
-        return None;
-    }
-    match any_place(set, random, |_| true) {
-        Some(place) if random.one_in(2) => Some(place.at + random.below(place.header)),
-        _ => Some(random.below(set.bytes.len())),
-    }
-}
-
-/// A place of this kind whose header is whole.
-fn any_place(set: &DataSet, random: &mut Random, wanted: impl Fn(&Place) -> bool) -> Option<Place> {
-    let fits = |place: &&Place| place.at + place.header <= set.bytes.len() && wanted(place);
-    let fitting = set.places.iter().filter(fits).count();
-    if fitting == 0 {
-        return None;
-    }
-    set.places.iter().filter(fits).nth(random.below(fitting)).copied()
-}
-
-fn sibling(set: &DataSet, wanted: impl Fn(&Place) -> bool) -> Option<Place> {
-    set.places.iter().find(|place| place.is_element() && wanted(place)).copied()
-}
-
-/// Where something could be put before a place, and the container it would be in.
-fn any_boundary(set: &DataSet, random: &mut Random) -> Option<(usize, Option<usize>)> {
-    if random.one_in(2) {
-        return Some(any_end(set, random));
-    }
-    any_place(set, random, |_| true).map(|place| (place.at, place.container))
-}
-
-/// The end of the contents of the data set or of a container: before its end mark, if it has one.
-fn any_end(set: &DataSet, random: &mut Random) -> (usize, Option<usize>) {
-    let size = set.bytes.len();
-    let containers: Vec<usize> = (0..set.places.len()).filter(|&at| set.places[at].is_container()).collect();
-    if containers.is_empty() || random.one_in(4) {
-        return (size, None);
-    }
-    let container = random.pick(&containers);
-    let Place { end, undefined, .. } = set.places[container];
-    (end.saturating_sub(if undefined { MARK_SIZE } else { 0 }).min(size), Some(container))
-}
-
-/// Puts bytes in between, mostly with true lengths around them.
-fn put_at(set: &mut DataSet, at: usize, container: Option<usize>, new: &[u8], random: &mut Random) {
-    if !random.one_in(4) {
-        keep_lengths_true(set, container, new.len() as i64);
-    }
-    replace(set, at..at, new);
-}
-
-/// Tells a container and all around it that their contents will grow so much.
-fn keep_lengths_true(set: &mut DataSet, mut container: Option<usize>, growth: i64) {
-    while let Some(index) = container {
-        let place = set.places[index];
-        let contents = place.at + place.header;
-        if !place.undefined && contents <= set.bytes.len() {
-            let field = &mut set.bytes[contents - 4..contents];
-            let old = u32::from_le_bytes(field.try_into().expect("four bytes"));
-            field.copy_from_slice(&old.wrapping_add(growth as u32).to_le_bytes());
-        }
-        container = place.container;
-    }
-}
-
-/// Cuts the data set off, and states lengths that just reach there in all containers that reached further.
-fn cut_to_fit(set: &mut DataSet, at: usize) {
-    let is_cut = |place: &Place| place.is_container() && place.at + place.header <= at && at < place.end;
-    let cut: Vec<Place> =
-        set.places.iter().filter(|place| is_cut(place) && !place.undefined).copied().collect();
-    for place in cut {
-        write_length(set, &place, (at - place.at - place.header) as u32);
-    }
-    set.bytes.truncate(at);
-}
-
-/// Puts bytes in the place of others and moves the places behind them.
-fn replace(set: &mut DataSet, old: Range<usize>, new: &[u8]) {
-    let moved = |offset: usize| if offset >= old.end { offset - old.len() + new.len() } else { offset };
-    for place in &mut set.places {
-        place.at = moved(place.at);
-        place.end = moved(place.end).max(place.at);
-    }
-    set.bytes.splice(old, new.iter().copied());
-}
-
-/// Overwrites bytes as far as the data set goes.
-fn write(set: &mut DataSet, at: usize, new: &[u8]) {
-    for (old, new) in set.bytes.iter_mut().skip(at).zip(new) {
-        *old = *new;
-    }
-}
-
-/// The length field is the end of the header, two bytes of it in a short one of an element.
-fn write_length(set: &mut DataSet, place: &Place, length: u32) {
-    let size = if place.kind == Kind::Value && place.header == 8 { 2 } else { 4 };
-    write(set, place.at + place.header - size, &length.to_le_bytes()[..size]);
-}
-
-fn odd_length(set: &DataSet, place: &Place, random: &mut Random) -> u32 {
-    let contents = place.at + place.header;
-    let true_length = place.end.saturating_sub(contents) as u32;
-    let container = place.container.map_or(set.bytes.len(), |container| set.places[container].end);
-    let to_the_end = container.saturating_sub(contents) as u32;
-    let small = random.below(100) as u32;
-    random.pick(&[
-        true_length | 1,
-        true_length.wrapping_sub(1),
-        true_length.wrapping_add(2),
-        true_length.wrapping_sub(2),
-        true_length.wrapping_add(8),
-        true_length.wrapping_sub(8),
-        to_the_end,
-        to_the_end.wrapping_add(2),
-        to_the_end | 1,
-        (set.bytes.len() - contents) as u32,
-        UNDEFINED,
-        UNDEFINED,
-        UNDEFINED - 1,
-        0x8000_0000,
-        0,
-        small,
-    ])
-}
-
-/// A tag for an element that has one: equal to its neighbour's, falling, never allowed, or at the edge of
-/// that.
-fn odd_tag(set: &DataSet, place: &Place, random: &mut Random) -> u32 {
-    let own = tag_at(&set.bytes, place.at).unwrap_or(0);
-    let before = sibling(set, |other| other.end == place.at && other.container == place.container);
-    let after = sibling(set, |other| other.at == place.end && other.container == place.container);
-    let tag_of = |place: Option<Place>| place.and_then(|place| tag_at(&set.bytes, place.at)).unwrap_or(own);
-    let (before, after) = (tag_of(before), tag_of(after));
-    let element = own & 0xFFFF;
-    let other = allowed_tag(random);
-    random.pick(&[
-        before,
-        before,
-        before.wrapping_sub(1),
-        before.wrapping_add(1),
-        after,
-        after.wrapping_add(1),
-        after.wrapping_sub(1),
-        0,
-        element,
-        0x0002_0000 | element,
-        0x0007_0000 | element,
-        FIRST_TAG - 1,
-        FIRST_TAG,
-        LAST_TAG,
-        LAST_TAG + 1,
-        0xFFFE_0000 | element,
-        ITEM,
-        ITEM_END,
-        SEQUENCE_END,
-        0xFFFF_0000 | element,
-        u32::MAX,
-        own.rotate_left(16),
-        other,
-    ])
-}
-
-fn odd_vr(old: [u8; 2], random: &mut Random) -> [u8; 2] {
-    let [first, second] = old;
-    let noise = [random.byte(), random.byte()];
-    let letters = [b'A' + random.below(26) as u8, b'A' + random.below(26) as u8];
-    let known = random.pick(&["SQ", "SQ", "UN", "OB", "UT", "CS", "US", "UI"]).as_bytes();
-    random.pick(&[
-        old.map(|letter| letter.to_ascii_lowercase()),
-        [first.to_ascii_lowercase(), second],
-        [second, first],
-        [first, first],
-        [first, 0],
-        [0, 0],
-        noise,
-        letters,
-        *b"OX",
-        [known[0], known[1]],
-        [known[0], known[1]],
-    ])
-}
-
-fn odd_bytes(random: &mut Random, count: usize) -> Bytes {
-    match random.below(4) {
-        0 => vec![0; count],
-        1 => vec![0xFF; count],
-        _ => random.bytes(count),
-    }
-}
-
-/// The front of something, or bytes that are nothing.
-fn leftover(random: &mut Random) -> Bytes {
-    let wholes = [
-        head(LAST_TAG, "OB", 0),
-        head(LAST_TAG, "SQ", UNDEFINED),
-        head(LAST_TAG, "CS", 2),
-        head(LAST_TAG, "OX", 0),
-        [&tag_bytes(LAST_TAG)[..], b"OB\x01\0", &[0; 4]].concat(),
-        [&tag_bytes(LAST_TAG)[..], b"UT\0\x01", &[1; 4]].concat(),
-        item_end(),
-        sequence_end(),
-        item(&[]),
-        vec![0; 12],
-        vec![0xFF; 12],
-    ];
-    let whole = &wholes[random.below(wholes.len())];
-    whole[..1 + random.below(whole.len())].to_vec()
 }

@@ -3,19 +3,19 @@
 
 use std::collections::BTreeSet;
 
-use crate::cases::{Case, Lent};
 use crate::damage::{self, Damage};
-use crate::edges;
-use crate::generate::{DataSet, Kind};
+use crate::generate::{DataSet, Kind, Taste};
+use crate::lent::Lent;
 use crate::pieces::*;
 use crate::random::Random;
 use crate::shrink::shrunk;
-use crate::view::{self, Answer, Comparison, Counts, expected};
+use crate::view::cases::Case;
+use crate::view::{self, Answer, Comparison, Counts, edges, expected};
 
 const SEEDS: u64 = 1_000;
 
 fn well_formed(seed: u64) -> DataSet {
-    DataSet::well_formed(&mut Random::new(seed))
+    DataSet::well_formed(&mut Random::new(seed), Taste::SHAPE)
 }
 
 #[test]
@@ -51,7 +51,7 @@ fn the_places_are_where_they_say() {
 #[test]
 fn data_sets_that_are_too_deep_are_refused_for_that_alone() {
     for seed in 0..SEEDS {
-        let set = DataSet::too_deep(&mut Random::new(seed));
+        let set = DataSet::too_deep(&mut Random::new(seed), Taste::SHAPE);
         let item = set.first_too_deep().unwrap();
         assert_eq!(expected(&set.bytes, 0), Answer::refused(10, item.at as u64), "seed {seed}");
     }
@@ -100,7 +100,7 @@ fn every_kind_of_thing_is_made() {
 fn refusals(damage: Damage) -> BTreeSet<u64> {
     let strike = |seed| {
         let random = &mut Random::new(seed);
-        let mut set = DataSet::well_formed(random);
+        let mut set = DataSet::well_formed(random, Taste::SHAPE);
         damage.strike(&mut set, random)?;
         Some(expected(&set.bytes, 0).refusal)
     };
@@ -140,7 +140,7 @@ fn each_damage_leads_to_the_refusals_it_is_for() {
 fn damage_at_the_ninth_item_shows_what_goes_before_its_depth() {
     let strike = |seed| {
         let random = &mut Random::new(seed);
-        let mut set = DataSet::too_deep(random);
+        let mut set = DataSet::too_deep(random, Taste::SHAPE);
         let item = set.first_too_deep().unwrap();
         damage::at(&item, &mut set, random);
         let answer = expected(&set.bytes, 0);
@@ -163,7 +163,7 @@ fn some_damage_is_always_a_fault() {
 fn damage_upon_damage_goes_well() {
     for seed in 0..SEEDS {
         let random = &mut Random::new(seed);
-        let mut set = DataSet::well_formed(random);
+        let mut set = DataSet::well_formed(random, Taste::SHAPE);
         for _ in 0..20 {
             damage::any(&mut set, random);
         }

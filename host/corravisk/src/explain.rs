@@ -1,0 +1,104 @@
+//! `corravisk explain`: for each row of the table, what the library will do with such an attribute.
+
+use std::io::Write;
+
+use crate::actions::Actions;
+use crate::arguments::Arguments;
+use crate::attributes::{Row, read_tag, rows};
+use crate::json::Json;
+use crate::settings::Settings;
+use crate::stop::Stop;
+use crate::summary::{Summary, written};
+use crate::text;
+
+/// Rules beside the table, each with a tag to ask for.
+const RULES: [Row; 4] = [
+    Row { printed: "(gggg,0000)", name: "Group Length, of any group", tag: 0x0010_0000 },
+    Row {
+        printed: "(0012,0062)",
+        name: "Patient Identity Removed, top level; then written anew",
+        tag: 0x0012_0062,
+    },
+    Row {
+        printed: "(0028,0303)",
+        name: "Longitudinal Temporal Information Modified, the same",
+        tag: 0x0028_0303,
+    },
+    Row { printed: "any other", name: "not named by the table, such as (0028,0010) Rows", tag: 0x0028_0010 },
+];
+
+/// What is done with the attributes of a row.
+struct Explained {
+    row: Row,
+    words: String,
+    /// What would be done without options, if that is something else.
+    basic: Option<String>,
+    /// What a list writes.
+    listed: Option<String>,
+}
+
+pub fn run(mut arguments: Arguments, out: &mut impl Write) -> Result<(), Stop> {
+    let json = arguments.flag("--json")?;
+    let settings = Settings { root: "1".into(), ..Settings::from(&mut arguments)? };
+    if let [word, ..] = &arguments.words()?[..] {
+        return Err(Stop::Usage(format!("explain takes settings alone, not {}", word.display())));
+    }
+    if let Err(refusal) = settings.judge(&[], 0) {
+        eprintln!("{}", refusal.line(&settings.line_at_fault().unwrap_or("the settings".into())));
+        return Err(Stop::Refused);
+    }
+    let settings = Settings { root: String::new(), ..settings };
+    let explained = rows().iter().chain(&RULES).map(|row| explain(row, &settings));
+    if json {
+        let rows = explained.map(|explained| explained.json()).collect();
+        let report = vec![
+            ("settings", settings.json()),
+            ("because_of", Summary::of(&settings).json()),
+            ("rows", Json::List(rows)),
+        ];
+        return Ok(writeln!(out, "{}", Json::Object(report))?);
+    }
+    Summary::of(&settings).print(out)?;
+    writeln!(out)?;
+    for explained in explained {
+        writeln!(out, "{}", explained.line())?;
+    }
+    Ok(())
+}
+
+fn explain(row: &Row, settings: &Settings) -> Explained {
+    let now = Actions::of(settings.options, true, row.tag);
+    let basic = Actions::of(0, true, row.tag);
+    let is_listed = |tag| settings.lists.iter().any(|list| list.entries.iter().any(|entry| entry.tag == tag));
+    let listed =
+        read_tag(row.printed).filter(|&tag| is_listed(tag)).and_then(|tag| written(settings, tag, *b"LO"));
+    Explained {
+        row: *row,
+        words: now.words(),
+        basic: (basic != now).then(|| basic.main().words()),
+        listed: listed.map(|value| text::quoted(text::trimmed(&value))),
+    }
+}
+
+impl Explained {
+    fn line(&self) -> String {
+        let mark = if self.basic.is_some() { '*' } else { ' ' };
+        let Row { printed, name, .. } = self.row;
+        let basic =
+            self.basic.as_ref().map(|basic| format!("   [without --keep: {basic}]")).unwrap_or_default();
+        let listed = self.listed.as_ref().map(|value| format!("   list: {value}")).unwrap_or_default();
+        let printed = if printed.contains("odd") { "private" } else { printed };
+        format!("{mark} {printed:<11} {name:<56} {}{listed}{basic}", self.words)
+    }
+
+    fn json(self) -> Json {
+        let text = |text: Option<String>| text.map_or(Json::Null, Json::Text);
+        Json::Object(vec![
+            ("tag", self.row.printed.into()),
+            ("name", self.row.name.into()),
+            ("action", self.words.into()),
+            ("without_keep", text(self.basic)),
+            ("list", text(self.listed)),
+        ])
+    }
+}
