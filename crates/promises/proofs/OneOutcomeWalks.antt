@@ -1,18 +1,20 @@
--- One outcome for the routines whose contract is exact only for some inputs, within those: `rename::put_renamed`, `values::first_fault` and
--- `write::write`. No contract cites this file. Assumes nothing.
---     put-renamed-one    where the value keeps the rule for UIDs: the answers are one; and unless no slot was free, so is what is left
---     first-fault-one    where the data set has its shape: the answers are one
---     write-one          where it has its shape and no fault among its values: whether no slot was free, and else the numbers of the walk, are
---                        one; and unless no slot was free, so is what is left
--- Why not more: for other inputs these contracts promise safety alone, since the station refuses such inputs before it calls. What is left where
--- no slot was free is not said, since the station then zeroes it. `write` also hands back the place past the data set, which nobody reads.
+-- One outcome for the routines whose contract is exact only for some inputs, within those: `rename::put_renamed`, `values::first_fault`,
+-- `act::act` and `write::write`. No contract cites this file. Assumes nothing.
+--     put-renamed-one    where the value keeps the rule for UIDs
+--     first-fault-one    where the data set has its shape
+--     act-one            where the element is one to be passed on from a state that the output and the ledger hold
+--     write-one          where the data set has its shape and no fault among its values
+--     at-place-one, one-kept-one    what goes with `act`
+-- The answers are one, and so is what is left, unless no slot was free. Why not more: for other inputs these contracts promise safety alone, since
+-- the station refuses such inputs before it calls. What is left where no slot was free is not said, since the station then zeroes it.
 use mathlib.Core.Path.{_≡_, refl, sym, ap, ap₂, subst, _∙_}
 use mathlib.Core.Logic.{_≢_}
 use mathlib.Core.List.{List, []}
-use mathlib.Core.Option.{Option, none, some}
+use mathlib.Core.Option.{none, some}
 use Prim.Native.Nat.{ℕ}
 use native.Mathlib.Omega.{arith}
 use lib.IntN.{ℤ}
+use lib.ListN.{length}
 use contract.Lifetimes.{Lfts}
 use denote.Ref.{now}
 use Rattle.basis.specs.Bytes.{part}
@@ -21,7 +23,10 @@ use Rattle.layout.specs.Tree.{Elements, Place}
 use Rattle.layout.specs.Read.{good, read}
 use Rattle.layout.specs.declared.Shape.{Shape}
 use Rattle.uid.specs.Value.{uidsOf}
-use Rattle.ledger.specs.Slots.{slotsOf}
+use Rattle.buffer.proofs.Laws.{length-laid}
+use Rattle.ledger.specs.Slots.{slotsOf, flat}
+use Rattle.fates.specs.Meant.{meant}
+use Rattle.fates.specs.declared.Fate.{Fate}
 use Rattle.kept.specs.Settings.{Settings}
 use Rattle.kept.specs.Fates.{top}
 use Rattle.kept.specs.Counts.{counts}
@@ -31,9 +36,14 @@ use Rattle.rename.specs.Renamed.{Outcome, Bounds, renamedElement, namesAfter}
 use Rattle.rename.specs.declared.Renamed.{Renamed}
 use Rattle.rename.specs.declared.Renamed.the-variants.{Full, To}
 use Rattle.write.specs.Whole.{Ended}
-use Rattle.write.specs.declared.Progress.{Progress}
-use Rattle.write.specs.declared.Walk.{Walk}
-use Rattle.write.specs.declared.Walk.the-variants.{Stop, To as On}
+use Rattle.act.specs.Passed.{State}
+use Rattle.act.specs.Wrote.{Holds, Ends, ActPass, Bounds as Walked}
+use Rattle.act.specs.declared.Progress.{Progress}
+use Rattle.act.specs.declared.Walk.{Walk}
+use Rattle.act.specs.declared.Walk.the-variants.{Stop, To as On}
+use Rattle.act.proofs.act.Reads as act
+use Rattle.act.proofs.at_place.Reads as at-place
+use Rattle.act.proofs.one_kept.Reads as one-kept
 use Rattle.rename.proofs.put_renamed.Reads as put-renamed
 use Rattle.values.proofs.first_fault.Reads as first-fault
 use Rattle.write.proofs.write.Reads as write
@@ -74,12 +84,51 @@ first-fault-one κs κs′ options days rows rows′ s s′ r r′ es past e sha
     w : Settings
     w = record { options = options; shift = days; root = []; study = []; site = [] }
 
--- ---- write
+-- ---- how far a walk is
 
 pub progress-one : (t t′ : Progress) → t .pos ≡ t′ .pos → t .used ≡ t′ .used
     → counts (t .kept) (t .replaced) (t .renamed) (t .removed) ≡ counts (t′ .kept) (t′ .replaced) (t′ .renamed) (t′ .removed) → t ≡ t′
 progress-one t t′ p u c =
     λ i. record { pos = p i; used = u i; kept = c i .stayed; replaced = c i .replaced; renamed = c i .renamings; removed = c i .removals }
+
+-- ---- act
+
+pub at-place-one : (κs κs′ : Lfts 0) (t : Progress) (pos : ℕ) (r r′ : Progress) → at-place.Learnt κs (t, (pos, tt)) r (t, (pos, tt))
+    → at-place.Learnt κs′ (t, (pos, tt)) r′ (t, (pos, tt)) → r ≡ r′
+at-place-one κs κs′ t pos r r′ a b = a ∙ sym b
+
+pub one-kept-one : (κs κs′ : Lfts 0) (t : Progress) (pos : ℕ) (r r′ : Progress) → one-kept.Learnt κs (t, (pos, tt)) r (t, (pos, tt))
+    → one-kept.Learnt κs′ (t, (pos, tt)) r′ (t, (pos, tt)) → r ≡ r′
+one-kept-one κs κs′ t pos r r′ a b = a ∙ sym b
+
+ends-one : (o₀ l₀ k o o′ l l′ : List ℕ) (from end more one next : ℕ) (st : State) (t : Progress) (r r′ : Walk) → length k ≡ length l₀
+    → Walked from end more one k t r → Walked from end more one k t r′ → Ends o₀ l₀ o l next st r → Ends o₀ l₀ o′ l′ next st r′
+    → (r ≡ r′) × (r ≢ Stop → (l ≡ l′) × (o ≡ o′))
+ends-one o₀ l₀ k o o′ l l′ from end more one next st t Stop Stop e c d a b = (refl, λ h. absurd (h refl))
+ends-one o₀ l₀ k o o′ l l′ from end more one next st t Stop (On n u) e c d a b = absurd (omega (arith, a, d .5, b .1 .used-is, e))
+ends-one o₀ l₀ k o o′ l l′ from end more one next st t (On n u) Stop e c d a b = absurd (omega (arith, b, c .5, a .1 .used-is, e))
+ends-one o₀ l₀ k o o′ l l′ from end more one next st t (On n u) (On n′ u′) e c d a b = (
+  ap₂ On (a .0 ∙ sym (b .0)) (progress-one u u′ (a .1 .pos-is ∙ sym (b .1 .pos-is)) (a .1 .used-is ∙ sym (b .1 .used-is)) (a .1 .counts-are ∙ sym (b .1 .counts-are))),
+  λ _. (a .1 .ledger-is ∙ sym (b .1 .ledger-is), a .1 .out-is ∙ sym (b .1 .out-is)),
+)
+
+abbrev pub Acts : Lfts 5 → Fate → ℤ → Slice → Slice → Slice → ℕ → ℕ → Slice → ℕ → ℕ → Slice → Slice → Progress → Walk → Slice → Slice → Type 0
+Acts κs f days root study site tag vr s body past l o t r m p =
+    act.Learnt κs (f, (days, (root, (study, (site, (tag, (vr, (s, (body, (past, (l, (o, (t, tt)))))))))))))
+    r (f, (days, (root, (study, (site, (tag, (vr, (s, (body, (past, (m, (p, (t, tt)))))))))))))
+
+pub act-one : (κs κs′ : Lfts 5) (f : Fate) (days : ℤ) (root root′ study study′ site site′ : Slice) (tag vr : ℕ) (s s′ : Slice) (body past : ℕ) (l l′ o o′ m m′ p p′ : Slice) (t : Progress)
+    (r r′ : Walk) (w : Settings) (next : ℕ) (st st′ : State) (o₀ l₀ : List ℕ) → now root ≡ now root′ → now study ≡ now study′ → now site ≡ now site′ → now s ≡ now s′ → now l ≡ now l′
+    → now o ≡ now o′ → ActPass days (now root) (now study) (now site) (meant f) tag vr (now s) body past w next st st′ → Holds o₀ l₀ (now o) (now l) t st
+    → Acts κs f days root study site tag vr s body past l o t r m p → Acts κs′ f days root′ study′ site′ tag vr s′ body past l′ o′ t r′ m′ p′
+    → (r ≡ r′) × (r ≢ Stop → (now m ≡ now m′) × (now p ≡ now p′))
+act-one κs κs′ f days root root′ study study′ site site′ tag vr s s′ body past l l′ o o′ m m′ p p′ t r r′ w next st st′ o₀ l₀ d₀ d₁ d₂ d₃ d₄ d₅ pass holds a b =
+    ends-one o₀ l₀ (now l) (now p) (now p′) (now m) (now m′) body past 128 1 next st′ t r r′
+    (ap length (holds .ledger-is) ∙ length-laid l₀ 0 (flat (st .names)))
+    (a .bounds) (rw d₄ (b .bounds)) (a .right w next st st′ pass o₀ l₀ holds)
+    (b .right w next st st′ (rw (d₀, d₁, d₂, d₃) at pass) o₀ l₀ (rw (d₄, d₅) at holds))
+
+-- ---- write
 
 ended-one : (i : Input) (es : Elements Place) (past : ℕ) (o p p′ l m m′ : List ℕ) (r r′ : Walk) → Ended i es past o p l m r → Ended i es past o p′ l m′ r′
     → (r ≡ r′) × (r ≢ Stop → (m ≡ m′) × (p ≡ p′))

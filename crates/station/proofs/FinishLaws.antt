@@ -11,9 +11,9 @@ use borrow.Author.Tests.{lt-ltb, le-ltb}
 use Rattle.buffer.specs.Buffer.{cleared}
 use Rattle.ledger.specs.Slots.{slotSize, slotsOf}
 use Rattle.ledger.proofs.SlotLaws.{slotsOf-most}
-use Rattle.write.specs.declared.Progress.{Progress}
-use Rattle.write.specs.declared.Walk.{Walk}
-use Rattle.write.specs.declared.Walk.the-variants.{Stop, To}
+use Rattle.act.specs.declared.Progress.{Progress}
+use Rattle.act.specs.declared.Walk.{Walk}
+use Rattle.act.specs.declared.Walk.the-variants.{Stop, To}
 use Rattle.station.specs.Steps.{zeroed, left, Counted, finished, finishedOutput, finishedLedger}
 use Rattle.station.specs.declared.Outcome.{Outcome}
 use Rattle.station.specs.declared.Outcome.the-variants.{Refused, Done}

@@ -34,9 +34,9 @@ use Rattle.answer.specs.Input.{Input, readAs, treeIn, treeOf, content, inUse, s
 use Rattle.answer.specs.Answer.{refused, done, answer, Report, reportFor, reportOf, filledUp, outputFor, outputOf, ledgerFor, ledgerOf}
 use Rattle.values.specs.Judged.{judged}
 use Rattle.write.specs.Whole.{Ended, Whole}
-use Rattle.write.specs.declared.Progress.{Progress}
-use Rattle.write.specs.declared.Walk.{Walk}
-use Rattle.write.specs.declared.Walk.the-variants.{Stop, To}
+use Rattle.act.specs.declared.Progress.{Progress}
+use Rattle.act.specs.declared.Walk.{Walk}
+use Rattle.act.specs.declared.Walk.the-variants.{Stop, To}
 use Rattle.station.specs.Entry.{report}
 use Rattle.station.specs.Steps.{judgedAs, Judged, zeroed, left, Counted, finished, finishedOutput, finishedLedger}
 use Rattle.station.specs.declared.Outcome.{Outcome}

@@ -29,8 +29,8 @@ use Rattle.kept.specs.Fates.{top}
 use Rattle.kept.specs.Faults.{firstFault}
 use Rattle.answer.specs.Answer.{filledUp}
 use Rattle.values.specs.Judged.{judged}
-use Rattle.write.specs.declared.Walk.{Walk}
-use Rattle.write.specs.declared.Walk.the-variants.{Stop, To}
+use Rattle.act.specs.declared.Walk.{Walk}
+use Rattle.act.specs.declared.Walk.the-variants.{Stop, To}
 use Rattle.station.specs.declared.Outcome.{Outcome}
 use Rattle.station.specs.declared.Outcome.the-variants.{Refused, Done}
 

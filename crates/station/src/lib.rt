@@ -1,8 +1,8 @@
 // The entry: document 01, "What the station takes and hands back" and "When the station says no". The conditions are tried in their
 // order, and every byte of the output and the ledger is told, whatever the inputs are.
+use act::Progress;
+use act::Walk;
 use layout::Shape;
-use write::Progress;
-use write::Walk;
 ghost use mathlib.Core.Path.{_≡_};
 ghost use lib.ListN.{length};
 ghost use Rattle.table.specs.Rows.{table};

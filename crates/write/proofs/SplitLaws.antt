@@ -32,15 +32,15 @@ use Rattle.kept.specs.Fates.{Level, inner, fate}
 use Rattle.kept.specs.Faults.{Fault, first, fieldFault, firstFault, itemsFault}
 use Rattle.fates.specs.Meant.{levelOf}
 use Rattle.gains.specs.Gains.{gained}
-use Rattle.write.specs.Passed.{State, say, passed, passedOne, passedItems}
-use Rattle.write.specs.Steps.{at-place}
-use Rattle.write.specs.Wrote.{Given, Holds, Wrote, ElementsPass, PlainPass, SequencePass, ItemsPass, ItemPass}
-use Rattle.write.specs.declared.Progress.{Progress}
-use Rattle.write.specs.declared.Walk.{Walk}
-use Rattle.write.specs.declared.Walk.the-variants.{Stop, To}
-use Rattle.write.proofs.PassedLaws.{passed-nil, passed-elem, passed-grows, items-none, items-item, items-grow}
+use Rattle.act.specs.Passed.{State, say, passed, passedOne, passedItems}
+use Rattle.act.specs.Steps.{at-place}
+use Rattle.act.specs.Wrote.{Given, Holds, Wrote, ElementsPass, PlainPass, SequencePass, ItemsPass, ItemPass}
+use Rattle.act.specs.declared.Progress.{Progress}
+use Rattle.act.specs.declared.Walk.{Walk}
+use Rattle.act.specs.declared.Walk.the-variants.{Stop, To}
+use Rattle.act.proofs.PassedLaws.{passed-nil, passed-elem, passed-grows, items-none, items-item, items-grow}
 use Rattle.write.proofs.RisesLaws.{Fits, head-fits, found-rises}
-use Rattle.write.proofs.HoldsLaws.{holds-say}
+use Rattle.act.proofs.HoldsLaws.{holds-say}
 use Rattle.write.proofs.WroteLaws.{Splits, Going, going-end}
 
 -- ---- faults in values

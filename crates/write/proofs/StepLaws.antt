@@ -41,14 +41,15 @@ use Rattle.fates.specs.declared.Fate.the-variants.{Removed, Kept, Walked, Empti
 use Rattle.fates.proofs.FateLaws.{meant-is, below-level}
 use Rattle.gains.specs.Gains.{gained}
 use Rattle.put.proofs.ElementLaws.{length-header}
-use Rattle.write.specs.Passed.{State, say, count, passed, passedOne, passedItems}
-use Rattle.write.specs.Steps.{at-place, one-kept, walks}
-use Rattle.write.specs.Wrote.{Given, Holds, Ends, met, Bounds, Wrote, ElementsPass, PlainPass, ActPass, SequencePass, WalkedPass, ShutPass, ItemsPass, ItemPass}
-use Rattle.write.specs.declared.Progress.{Progress}
-use Rattle.write.specs.declared.Walk.{Walk}
-use Rattle.write.specs.declared.Walk.the-variants.{Stop, To}
-use Rattle.write.proofs.PassedLaws.{counts-is, one-shut, one-open}
-use Rattle.write.proofs.HoldsLaws.{holds-say, holds-count}
+use Rattle.act.specs.Passed.{State, say, count, passed, passedOne, passedItems}
+use Rattle.act.specs.Steps.{at-place, one-kept}
+use Rattle.write.specs.Walks.{walks}
+use Rattle.act.specs.Wrote.{Given, Holds, Ends, met, Bounds, Wrote, ElementsPass, PlainPass, ActPass, SequencePass, WalkedPass, ShutPass, ItemsPass, ItemPass}
+use Rattle.act.specs.declared.Progress.{Progress}
+use Rattle.act.specs.declared.Walk.{Walk}
+use Rattle.act.specs.declared.Walk.the-variants.{Stop, To}
+use Rattle.act.proofs.PassedLaws.{counts-is, one-shut, one-open}
+use Rattle.act.proofs.HoldsLaws.{holds-say, holds-count}
 use Rattle.write.proofs.WroteLaws.{Pass, Splits, wrote-first, wrote-stop}
 
 -- ---- what the top level gains, written before

@@ -33,13 +33,13 @@ use Rattle.kept.proofs.ContentLaws.{namesIn-map}
 use Rattle.answer.specs.Input.{Input, readAs, treeIn, treeOf, content, inUse, slotsAfter, bytesFor}
 use Rattle.gains.specs.Gains.{markedAt}
 use Rattle.gains.proofs.GainsLaws.{marked-start}
-use Rattle.write.specs.Passed.{State, slotted, treeFor, passed}
-use Rattle.write.specs.Wrote.{Given, Holds, Ends, Bounds, Wrote, ElementsPass}
+use Rattle.act.specs.Passed.{State, slotted, treeFor, passed}
+use Rattle.act.specs.Wrote.{Given, Holds, Ends, Bounds, Wrote, ElementsPass}
 use Rattle.write.specs.Whole.{Ended, Whole}
-use Rattle.write.specs.declared.Progress.{Progress}
-use Rattle.write.specs.declared.Walk.{Walk}
-use Rattle.write.specs.declared.Walk.the-variants.{Stop, To}
-use Rattle.write.proofs.PassedLaws.{counts-is}
+use Rattle.act.specs.declared.Progress.{Progress}
+use Rattle.act.specs.declared.Walk.{Walk}
+use Rattle.act.specs.declared.Walk.the-variants.{Stop, To}
+use Rattle.act.proofs.PassedLaws.{counts-is}
 
 abbrev pub begun : ℕ → Progress
 begun used = record { pos = 0; used = used; kept = 0; replaced = 0; renamed = 0; removed = 0 }

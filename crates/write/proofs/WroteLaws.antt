@@ -13,12 +13,12 @@ use native.Mathlib.Omega.{arith}
 use lib.ListN.{length, take}
 use Rattle.ledger.specs.Slots.{slotSize, slotsOf}
 use Rattle.kept.specs.Settings.{Settings}
-use Rattle.write.specs.Passed.{State}
-use Rattle.write.specs.Wrote.{Holds, Ends, met, Bounds, Wrote}
-use Rattle.write.specs.declared.Progress.{Progress}
-use Rattle.write.specs.declared.Walk.{Walk}
-use Rattle.write.specs.declared.Walk.the-variants.{Stop, To}
-use Rattle.write.proofs.HoldsLaws.{slots-same}
+use Rattle.act.specs.Passed.{State}
+use Rattle.act.specs.Wrote.{Holds, Ends, met, Bounds, Wrote}
+use Rattle.act.specs.declared.Progress.{Progress}
+use Rattle.act.specs.declared.Walk.{Walk}
+use Rattle.act.specs.declared.Walk.the-variants.{Stop, To}
+use Rattle.act.proofs.HoldsLaws.{slots-same}
 
 -- what is to be passed: under these settings, up to that place, from one state to another
 abbrev pub Pass : Type 1

@@ -1,4 +1,2 @@
-pub mod Passed
-pub mod Steps
-pub mod Wrote
+pub mod Walks
 pub mod Whole

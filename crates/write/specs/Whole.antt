@@ -18,9 +18,9 @@ use Rattle.kept.specs.Fates.{top}
 use Rattle.kept.specs.Counts.{counts, countsOf}
 use Rattle.kept.specs.Faults.{firstFault}
 use Rattle.answer.specs.Input.{Input, readAs, slotsAfter, bytesFor}
-use Rattle.write.specs.Wrote.{Given}
-use Rattle.write.specs.declared.Walk.{Walk}
-use Rattle.write.specs.declared.Walk.the-variants.{Stop, To}
+use Rattle.act.specs.Wrote.{Given}
+use Rattle.act.specs.declared.Walk.{Walk}
+use Rattle.act.specs.declared.Walk.the-variants.{Stop, To}
 
 abbrev pub Ended : Input → Elements Place → ℕ → List ℕ → List ℕ → List ℕ → List ℕ → Walk → Type 0
 Ended i es past o o′ l l′ Stop = slotsOf l < length (slotsAfter i)

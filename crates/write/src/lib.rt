@@ -2,11 +2,12 @@
 // UIDs in the ledger, and counts. Elements contain sequences, sequences items, items elements: those walkers call each other in a cycle,
 // and what stands side by side is passed over in a loop. The output is clipped at its end while the place counts on, so that whether there
 // was room is decided once, afterwards.
+use act::Progress;
+use act::Walk;
 use fates::Fate;
 use layout::Head;
 use layout::Shape;
 use layout::Spot;
-use rename::Renamed;
 ghost use mathlib.Core.Path.{_≡_};
 ghost use Prim.Native.Nat.{_+_, _-_, _*_, _≤_, _<_, _^_};
 ghost use lib.ListN.{length};
@@ -15,98 +16,14 @@ ghost use Rattle.table.specs.Rows.{table};
 ghost use Rattle.ledger.specs.Slots.{slotsOf};
 ghost use Rattle.fates.specs.Meant.{meant};
 ghost use Rattle.gains.specs.Gains.{gained};
-ghost use Rattle.write.specs.Wrote.{met, Wrote, ElementsPass, SequencePass, WalkedPass, ShutPass, ItemsPass, ItemPass, ActPass, PlainPass};
+ghost use Rattle.act.specs.Wrote.{met, Wrote, ElementsPass, SequencePass, WalkedPass, ShutPass, ItemsPass, ItemPass, PlainPass};
 ghost use Rattle.layout.specs.Limits.{longest};
 ghost use Rattle.write.specs.Whole.{Whole};
-ghost use Rattle.write.specs.Steps.{at-place, one-kept, one-replaced, one-renamed, one-removed, walks};
+ghost use Rattle.act.specs.Steps.{at-place};
+ghost use Rattle.write.specs.Walks.{walks};
 
 // No tag is as large.
 const PAST_ALL_TAGS: u64 = 0x1_0000_0000;
-
-// How far the walk is: the output's next place, the ledger's slots in use, and the four counts.
-pub struct Progress {
-    pub pos: usize,
-    pub used: usize,
-    pub kept: usize,
-    pub replaced: usize,
-    pub renamed: usize,
-    pub removed: usize,
-}
-
-// How a walk ended: no slot was free for a UID; or the place past what was walked, and how far the walk is.
-pub enum Walk {
-    Stop,
-    To(usize, Progress),
-}
-
-fn at_place(t: Progress, pos: usize) -> Progress
-    ensures { λ r. ⌜ r ≡ at-place t pos ⌝ }
-{
-    Progress {
-        pos: pos,
-        used: t.used,
-        kept: t.kept,
-        replaced: t.replaced,
-        renamed: t.renamed,
-        removed: t.removed,
-    }
-}
-
-fn one_kept(t: Progress, pos: usize) -> Progress
-    requires { ⌜ met t + 1 < 2 ^ 63 ⌝ }
-    ensures { λ r. ⌜ r ≡ one-kept t pos ⌝ }
-{
-    Progress {
-        pos: pos,
-        used: t.used,
-        kept: t.kept + 1,
-        replaced: t.replaced,
-        renamed: t.renamed,
-        removed: t.removed,
-    }
-}
-
-fn one_replaced(t: Progress, pos: usize) -> Progress
-    requires { ⌜ met t + 1 < 2 ^ 63 ⌝ }
-    ensures { λ r. ⌜ r ≡ one-replaced t pos ⌝ }
-{
-    Progress {
-        pos: pos,
-        used: t.used,
-        kept: t.kept,
-        replaced: t.replaced + 1,
-        renamed: t.renamed,
-        removed: t.removed,
-    }
-}
-
-fn one_renamed(t: Progress, pos: usize, used: usize) -> Progress
-    requires { ⌜ met t + 1 < 2 ^ 63 ⌝ }
-    ensures { λ r. ⌜ r ≡ one-renamed t pos used ⌝ }
-{
-    Progress {
-        pos: pos,
-        used: used,
-        kept: t.kept,
-        replaced: t.replaced,
-        renamed: t.renamed + 1,
-        removed: t.removed,
-    }
-}
-
-fn one_removed(t: Progress) -> Progress
-    requires { ⌜ met t + 1 < 2 ^ 63 ⌝ }
-    ensures { λ r. ⌜ r ≡ one-removed t ⌝ }
-{
-    Progress {
-        pos: t.pos,
-        used: t.used,
-        kept: t.kept,
-        replaced: t.replaced,
-        renamed: t.renamed,
-        removed: t.removed + 1,
-    }
-}
 
 // Whether an element of this fate is walked into.
 fn is_walked(fate: Fate) -> bool
@@ -124,63 +41,13 @@ fn is_walked(fate: Fate) -> bool
     }
 }
 
-// What is to be done with an element that is not walked into: document 01, "What each action writes". Its value, or a sequence's items,
-// stand from `body` up to `past`. No value is wrong here, since those were judged before anything is written.
-fn act<'a>(
-    fate: Fate,
-    days: i32,
-    root: &[u8],
-    study: &'a [u8],
-    site: &'a [u8],
-    tag: u64,
-    vr: u64,
-    s: &[u8],
-    body: usize,
-    past: usize,
-    ledger: &mut [u8],
-    out: &mut [u8],
-    t: Progress,
-) -> Walk
-    requires { ⌜ (body ≤ past) × (past ≤ length (now s)) × (length (now root) ≤ 59) × (t .used ≤ slotsOf (now ledger)) × (t .pos + 256 * (past - body) + 128 < 2 ^ 63) × (met t + 1 < 2 ^ 63) ⌝ }
-    ensures { λ r. ⌜ Wrote (ActPass days (now (root .entry)) (now (study .entry)) (now (site .entry)) (meant fate) tag vr (now (s .entry)) body past) body past 128 1 (now (out .entry)) (now (out .exit)) (now (ledger .entry)) (now (ledger .exit)) t r ⌝ }
-{
-    match fate {
-        Fate::Removed => Walk::To(past, one_removed(t)),
-        Fate::Kept => {
-            let pos = put::put_same(tag, vr, s, body, past, out, t.pos);
-            Walk::To(past, one_kept(t, pos))
-        }
-        Fate::Emptied => {
-            let pos = put::put_emptied(study, site, tag, vr, out, t.pos);
-            Walk::To(past, one_replaced(t, pos))
-        }
-        Fate::Dummied => {
-            let pos = put::put_dummied(study, site, tag, vr, out, t.pos);
-            Walk::To(past, one_replaced(t, pos))
-        }
-        Fate::Shifted => {
-            let pos = put::put_dates(tag, vr, s, body, past, days, out, t.pos);
-            Walk::To(past, one_replaced(t, pos))
-        }
-        Fate::Renamed => {
-            let q = rename::put_renamed(tag, s, body, past, root, ledger, t.used, out, t.pos);
-            match q {
-                Renamed::Full => Walk::Stop,
-                Renamed::To(pos, used) => Walk::To(past, one_renamed(t, pos, used)),
-            }
-        }
-        Fate::Walked => Walk::Stop,
-        Fate::Wrong => Walk::Stop,
-    }
-}
-
 // What the top level gains from the tag `low` up to `high`.
 fn gain(top: bool, options: u64, low: u64, high: u64, out: &mut [u8], t: Progress) -> Progress
     requires { ⌜ t .pos + 1024 < 2 ^ 63 ⌝ }
     ensures { λ r. ⌜ (r ≡ at-place t (t .pos + length (gained top options low high))) × (now (out .exit) ≡ laid (now (out .entry)) (t .pos) (gained top options low high)) ⌝ }
 {
     let pos = gains::put_gained(top, options, low, high, out, t.pos);
-    at_place(t, pos)
+    act::at_place(t, pos)
 }
 
 // An element with a value, from `body` up to `past`.
@@ -207,7 +74,7 @@ fn plain<'a>(
 {
     let t = gain(top, options, low, tag + 1, out, start);
     let fate = fates::fate_of(rows, options, top, tag, vr);
-    act(
+    act::act(
         fate,
         days,
         root,
@@ -247,7 +114,7 @@ fn shut<'a>(
     let q = layout::sequence(s, body, stop, marked, depth);
     match q {
         Shape::Fault(_, _) => Walk::Stop,
-        Shape::Fine(past) => act(
+        Shape::Fine(past) => act::act(
             fate,
             days,
             root,
@@ -446,11 +313,11 @@ fn walked<'a>(
         Spot::Wrong(_) => Walk::Stop,
         Spot::Over(past) => {
             let pos = heads::put_header(tag, vr::SQ, 0, out, t.pos);
-            Walk::To(past, one_kept(t, pos))
+            Walk::To(past, act::one_kept(t, pos))
         }
         Spot::Item(_, _, _) => {
             let pos = heads::put_header(tag, vr::SQ, layout::UNDEFINED, out, t.pos);
-            let u = one_kept(t, pos);
+            let u = act::one_kept(t, pos);
             items(
                 rows,
                 options,
@@ -499,7 +366,7 @@ fn items<'a>(
             Spot::Wrong(_) => return Walk::Stop,
             Spot::Over(past) => {
                 let pos = heads::put_mark(layout::SEQUENCE_END, 0, out, t.pos);
-                let u = at_place(t, pos);
+                let u = act::at_place(t, pos);
                 return Walk::To(past, u);
             }
             Spot::Item(body, stop, m) => {
@@ -552,7 +419,7 @@ fn item<'a>(
     ensures { λ r. ⌜ Wrote (ItemPass options days (now (root .entry)) (now (study .entry)) (now (site .entry)) (now (s .entry)) body stop marked (depth - 1)) body stop 1056 0 (now (out .entry)) (now (out .exit)) (now (ledger .entry)) (now (ledger .exit)) start r ⌝ }
 {
     let pos = heads::put_mark(layout::ITEM, layout::UNDEFINED, out, start.pos);
-    let t = at_place(start, pos);
+    let t = act::at_place(start, pos);
     let q = elements(
         rows,
         options,
@@ -574,7 +441,7 @@ fn item<'a>(
         Walk::Stop => Walk::Stop,
         Walk::To(past, u) => {
             let after = heads::put_mark(layout::ITEM_END, 0, out, u.pos);
-            let v = at_place(u, after);
+            let v = act::at_place(u, after);
             Walk::To(past, v)
         }
     }

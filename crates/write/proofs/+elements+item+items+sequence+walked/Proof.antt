@@ -12,8 +12,8 @@ use Rattle.layout.specs.declared.Head.the-variants.{Plain, Seq}
 use Rattle.layout.specs.declared.Spot.the-variants.{Item}
 use Rattle.gains.proofs.PartLaws.{gained-length}
 use Rattle.put.proofs.ElementLaws.{length-header}
-use Rattle.write.specs.Wrote.{met, ElementsPass, ItemsPass}
-use Rattle.write.specs.declared.Progress.{Progress}
+use Rattle.act.specs.Wrote.{met, ElementsPass, ItemsPass}
+use Rattle.act.specs.declared.Progress.{Progress}
 use Rattle.write.proofs.WroteLaws.{Going, going-start, going-turn, wrote-stop, turn-past, turn-bound}
 use Rattle.write.proofs.SplitLaws.{split-plain, split-seq, split-item, wrote-bad, wrote-end, wrote-wrong, wrote-over, elements-leave, items-leave}
 use Rattle.write.proofs.StepLaws.{sequence-walked, sequence-shut, walked-wrong, walked-over, walked-item, item-stop, item-done}
@@ -44,10 +44,10 @@ use Rattle.heads.proofs.put_header.Reads as put-header-reads
 use Rattle.heads.proofs.put_mark.Reads as put-mark-reads
 use Rattle.layout.proofs.element_head.Reads as element-head-reads
 use Rattle.layout.proofs.item_head.Reads as item-head-reads
-use Rattle.write.proofs.at_place.Reads as at-place-reads
+use Rattle.act.proofs.at_place.Reads as at-place-reads
 use Rattle.write.proofs.gain.Reads as gain-reads
 use Rattle.write.proofs.is_walked.Reads as is-walked-reads
-use Rattle.write.proofs.one_kept.Reads as one-kept-reads
+use Rattle.act.proofs.one_kept.Reads as one-kept-reads
 use Rattle.write.proofs.plain.Reads as plain-reads
 use Rattle.write.proofs.shut.Reads as shut-reads
 use Rattle.write.proofs.+elements+item+items+sequence+walked.{statement}

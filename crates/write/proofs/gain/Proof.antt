@@ -1,6 +1,6 @@
 -- `write::gain` meets its contract. Assumes nothing.
 use mathlib.Core.Path.{_∙_, ap}
-use Rattle.write.specs.Steps.{at-place}
+use Rattle.act.specs.Steps.{at-place}
 use native.Mathlib.Omega.{arith}
 use borrow.Author.Needs.{needs}
 use Rattle.write.proofs.gain.Statement.{statement}
@@ -8,7 +8,7 @@ use Rattle.write.proofs.gain.Tie as tie
 use Rattle.write.proofs.gain.Reads as reads
 use Rattle.write.proofs.gain.Lts as lts
 use Rattle.gains.proofs.put_gained.Reads as put-gained-reads
-use Rattle.write.proofs.at_place.Reads as at-place-reads
+use Rattle.act.proofs.at_place.Reads as at-place-reads
 
 -- src/lib.rt:191:9
 put-gained-requires : tie.Need-put-gained-requires

@@ -3,8 +3,8 @@ use mathlib.Core.Path.{ap}
 use Prim.Native.Nat.{_+_}
 use mir.Facts.{toZ-ofZ}
 use Rattle.gains.proofs.PartLaws.{gained-length}
-use Rattle.write.specs.Wrote.{met}
-use Rattle.write.specs.declared.Progress.{Progress}
+use Rattle.act.specs.Wrote.{met}
+use Rattle.act.specs.declared.Progress.{Progress}
 use Rattle.write.proofs.StepLaws.{plain-act}
 use native.Mathlib.Omega.{arith}
 use borrow.Author.Needs.{needs}
@@ -13,7 +13,7 @@ use Rattle.write.proofs.plain.Tie as tie
 use Rattle.write.proofs.plain.Reads as reads
 use Rattle.write.proofs.plain.Lts as lts
 use Rattle.fates.proofs.fate_of.Reads as fate-of-reads
-use Rattle.write.proofs.act.Reads as act-reads
+use Rattle.act.proofs.act.Reads as act-reads
 use Rattle.write.proofs.gain.Reads as gain-reads
 
 -- src/lib.rt:217:37

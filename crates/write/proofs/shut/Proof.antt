@@ -10,7 +10,7 @@ use Rattle.write.proofs.shut.Tie as tie
 use Rattle.write.proofs.shut.Reads as reads
 use Rattle.write.proofs.shut.Lts as lts
 use Rattle.layout.proofs.sequence.Reads as sequence-reads
-use Rattle.write.proofs.act.Reads as act-reads
+use Rattle.act.proofs.act.Reads as act-reads
 
 -- src/lib.rt:242:9
 sequence-requires : tie.Need-sequence-requires

@@ -32,10 +32,10 @@ use Rattle.kept.specs.Counts.{counts}
 use Rattle.kept.specs.Faults.{fieldFault, firstFault, itemsFault}
 use Rattle.fates.specs.Meant.{levelOf}
 use Rattle.gains.specs.Gains.{gained}
-use Rattle.write.specs.Passed.{State, say, passed, passedOne, passedItems}
-use Rattle.write.specs.declared.Progress.{Progress}
-use Rattle.write.specs.declared.Walk.{Walk}
-use Rattle.write.specs.declared.Walk.the-variants.{Stop, To}
+use Rattle.act.specs.Passed.{State, say, passed, passedOne, passedItems}
+use Rattle.act.specs.declared.Progress.{Progress}
+use Rattle.act.specs.declared.Walk.{Walk}
+use Rattle.act.specs.declared.Walk.the-variants.{Stop, To}
 
 pub record Given (w : Settings) (options : ℕ) (days : ℤ) (root study site : List ℕ) : Type 0 where
   pub options-is : w .options ≡ options

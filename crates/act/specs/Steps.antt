@@ -1,12 +1,8 @@
 -- How the progress of the walk goes on over one element. Private contracts cite this file, no promise does. Assumes nothing.
 --     at-place t pos         the output's next place is pos
 --     one-kept t pos, ..     and one element more was kept, replaced, renamed, removed
---     walks φ                an element of this fate is walked into
-use mathlib.Core.Bool.{Bool, true, false}
 use Prim.Native.Nat.{ℕ, _+_}
-use Rattle.fates.specs.declared.Fate.{Fate}
-use Rattle.fates.specs.declared.Fate.the-variants.{Removed, Kept, Walked, Emptied, Dummied, Renamed, Shifted, Wrong}
-use Rattle.write.specs.declared.Progress.{Progress}
+use Rattle.act.specs.declared.Progress.{Progress}
 
 abbrev pub at-place : Progress → ℕ → Progress
 at-place t pos = record { pos = pos; used = t .used; kept = t .kept; replaced = t .replaced; renamed = t .renamed; removed = t .removed }
@@ -22,13 +18,3 @@ one-renamed t pos used = record { pos = pos; used = used; kept = t .kept; replac
 
 abbrev pub one-removed : Progress → Progress
 one-removed t = record { pos = t .pos; used = t .used; kept = t .kept; replaced = t .replaced; renamed = t .renamed; removed = t .removed + 1 }
-
-abbrev pub walks : Fate → Bool
-walks Removed = false
-walks Kept = false
-walks Walked = true
-walks Emptied = false
-walks Dummied = false
-walks Renamed = false
-walks Shifted = false
-walks Wrong = false

@@ -31,7 +31,7 @@ use Rattle.gains.proofs.WriteLaws.{putElements-on}
 use Rattle.gains.proofs.GainsLaws.{Other, Rises, written-from, marks-other}
 use Rattle.gains.proofs.StepLaws.{step-kept, step-gone, step-end}
 use Rattle.put.specs.Element.{elementBytes}
-use Rattle.write.specs.Passed.{State, say, count, slotted, slottedItems, treeFor, passed, passedOne, passedItems}
+use Rattle.act.specs.Passed.{State, say, count, slotted, slottedItems, treeFor, passed, passedOne, passedItems}
 
 -- ---- counts and states
 

@@ -13,10 +13,10 @@ use Rattle.buffer.specs.Buffer.{laid}
 use Rattle.buffer.proofs.Laws.{laid-more}
 use Rattle.ledger.specs.Slots.{slotSize}
 use Rattle.kept.specs.Counts.{Counts, counts, plus}
-use Rattle.write.specs.Passed.{State, say, count}
-use Rattle.write.specs.Steps.{at-place}
-use Rattle.write.specs.Wrote.{Holds}
-use Rattle.write.specs.declared.Progress.{Progress}
+use Rattle.act.specs.Passed.{State, say, count}
+use Rattle.act.specs.Steps.{at-place}
+use Rattle.act.specs.Wrote.{Holds}
+use Rattle.act.specs.declared.Progress.{Progress}
 
 module _ {o₀ l₀ o l : List ℕ} {t : Progress} {st : State} (h : Holds o₀ l₀ o l t st) where
   pub holds-say : (xs : List ℕ) {o′ : List ℕ} {p : ℕ} → o′ ≡ laid o (t .pos) xs → p ≡ t .pos + length xs → Holds o₀ l₀ o′ l (at-place t p) (say st xs)

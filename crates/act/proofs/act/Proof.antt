@@ -1,21 +1,21 @@
--- `write::act` meets its contract: one way out for each fate. Assumes nothing.
+-- `act::act` meets its contract: one way out for each fate. Assumes nothing.
 use mir.Facts.{toZ-ofZ}
-use Rattle.write.proofs.ActLaws.{way-removed, way-kept, way-emptied, way-dummied, way-shifted, way-full, way-renamed, way-walked, way-wrong}
+use Rattle.act.proofs.ActLaws.{way-removed, way-kept, way-emptied, way-dummied, way-shifted, way-full, way-renamed, way-walked, way-wrong}
 use native.Mathlib.Omega.{arith}
 use borrow.Author.Needs.{needs}
-use Rattle.write.proofs.act.Statement.{statement}
-use Rattle.write.proofs.act.Tie as tie
-use Rattle.write.proofs.act.Reads as reads
-use Rattle.write.proofs.act.Lts as lts
+use Rattle.act.proofs.act.Statement.{statement}
+use Rattle.act.proofs.act.Tie as tie
+use Rattle.act.proofs.act.Reads as reads
+use Rattle.act.proofs.act.Lts as lts
 use Rattle.put.proofs.put_dates.Reads as put-dates-reads
 use Rattle.put.proofs.put_dummied.Reads as put-dummied-reads
 use Rattle.put.proofs.put_emptied.Reads as put-emptied-reads
 use Rattle.rename.proofs.put_renamed.Reads as put-renamed-reads
 use Rattle.put.proofs.put_same.Reads as put-same-reads
-use Rattle.write.proofs.one_kept.Reads as one-kept-reads
-use Rattle.write.proofs.one_removed.Reads as one-removed-reads
-use Rattle.write.proofs.one_renamed.Reads as one-renamed-reads
-use Rattle.write.proofs.one_replaced.Reads as one-replaced-reads
+use Rattle.act.proofs.one_kept.Reads as one-kept-reads
+use Rattle.act.proofs.one_removed.Reads as one-removed-reads
+use Rattle.act.proofs.one_renamed.Reads as one-renamed-reads
+use Rattle.act.proofs.one_replaced.Reads as one-replaced-reads
 
 -- src/lib.rt:157:41
 enum-told : tie.Need-enum-told

@@ -44,14 +44,14 @@ use Rattle.rename.specs.declared.Renamed.{Renamed as Renaming}
 use Rattle.rename.specs.declared.Renamed.the-variants.{Full, To as Renamed-To}
 use Rattle.put.proofs.ElementLaws.{length-header, length-value}
 use Rattle.put.proofs.FillerLaws.{emptied-any, dummied-any, emptied-length, dummied-length}
-use Rattle.write.specs.Passed.{State, say, count, passedOne}
-use Rattle.write.specs.Steps.{at-place, one-kept, one-replaced, one-renamed, one-removed}
-use Rattle.write.specs.Wrote.{Given, Holds, Ends, met, Bounds, Wrote, Stands, ActPass}
-use Rattle.write.specs.declared.Progress.{Progress}
-use Rattle.write.specs.declared.Walk.{Walk}
-use Rattle.write.specs.declared.Walk.the-variants.{Stop, To}
-use Rattle.write.proofs.PassedLaws.{counts-is, one-removed as passed-removed, one-kept as passed-kept, one-shifted, one-emptied, one-dummied, one-renamed as passed-renamed}
-use Rattle.write.proofs.HoldsLaws.{holds-say, holds-count}
+use Rattle.act.specs.Passed.{State, say, count, passedOne}
+use Rattle.act.specs.Steps.{at-place, one-kept, one-replaced, one-renamed, one-removed}
+use Rattle.act.specs.Wrote.{Given, Holds, Ends, met, Bounds, Wrote, Stands, ActPass}
+use Rattle.act.specs.declared.Progress.{Progress}
+use Rattle.act.specs.declared.Walk.{Walk}
+use Rattle.act.specs.declared.Walk.the-variants.{Stop, To}
+use Rattle.act.proofs.PassedLaws.{counts-is, one-removed as passed-removed, one-kept as passed-kept, one-shifted, one-emptied, one-dummied, one-renamed as passed-renamed}
+use Rattle.act.proofs.HoldsLaws.{holds-say, holds-count}
 
 -- ---- what is passed on, by the fate
 

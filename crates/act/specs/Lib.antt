@@ -1,0 +1,3 @@
+pub mod Passed
+pub mod Steps
+pub mod Wrote
