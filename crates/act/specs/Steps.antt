@@ -1,4 +1,4 @@
--- How the progress of the walk goes on over one element. Private contracts cite this file, no promise does. Assumes nothing.
+-- How the progress of the walk goes on over one element. Inner contracts cite this file, no promise does. Assumes nothing.
 --     at-place t pos         the output's next place is pos
 --     one-kept t pos, ..     and one element more was kept, replaced, renamed, removed
 use Prim.Native.Nat.{ℕ, _+_}

@@ -1,5 +1,5 @@
--- What the functions of the writing walk promise: each that walks or writes an element is one `Wrote`, over what is to be passed. Private
--- contracts cite this file; the public one is `Whole`. Assumes nothing.
+-- What the functions of the writing walk promise: each that walks or writes an element is one `Wrote`, over what is to be passed. The contract
+-- of `act` and the inner ones of crate `write` cite this file; what `write` promises of a whole data set is its own `Whole`. Assumes nothing.
 --     Given w options days root study site   w is the settings that these parameters of the code stand for
 --     Holds o₀ l₀ o l t st     the output o and the ledger l, which were o₀ and l₀, and the progress t hold the state st
 --     Ends                     a walk that should end at a place with a state does so; or it stops, where the state has more slots than there are

@@ -18,6 +18,8 @@ pub enum Action {
     Renamed,
     Shifted,
     Refused,
+    /// No data set may have an element with this tag.
+    Barred,
     /// A number that the interface does not have.
     Unknown(u64),
 }
@@ -48,6 +50,7 @@ impl Action {
             Action::Renamed => "UIDs renamed",
             Action::Shifted => "dates shifted",
             Action::Refused => "refused (No. 11)",
+            Action::Barred => "refused (No. 7): no data set may have such an element",
             Action::Unknown(number) => return format!("unknown ({number})"),
         }
         .into()
@@ -57,12 +60,21 @@ impl Action {
 impl Actions {
     /// Asks the library for every VR.
     pub fn of(options: u64, top: bool, tag: u32) -> Actions {
+        if is_barred(tag) {
+            return Actions(vec![Action::Barred; vrs::ALL.len()]);
+        }
         Actions(vrs::ALL.into_iter().map(|vr| Action::of(options, top, tag, vr)).collect())
     }
 
     /// Whether some VR's value goes out as it came in.
     pub fn keeps_something(&self) -> bool {
         self.0.contains(&Action::Kept)
+    }
+
+    /// Whether dates are shifted and times are kept beside them.
+    pub fn shifts_dates_alone(&self) -> bool {
+        let has = |vr, action| self.0.iter().zip(vrs::ALL).any(|(is, of)| of == vr && *is == action);
+        has(*b"DA", Action::Shifted) && has(*b"TM", Action::Kept)
     }
 
     /// What holds for most VRs.
@@ -107,6 +119,12 @@ impl Actions {
     }
 }
 
+/// Whether the library refuses a data set for holding an element with this tag (No. 7).
+fn is_barred(tag: u32) -> bool {
+    let element = [&tag.rotate_left(16).to_le_bytes()[..], b"LO\0\0"].concat();
+    library::view(&element, tag.into()).refusal == 7
+}
+
 #[cfg(test)]
 mod tests {
     use super::*;
@@ -117,6 +135,7 @@ mod tests {
         assert_eq!(words(0, 0x0010_0010), "emptied");
         assert_eq!(words(0, 0x0009_0010), "removed");
         assert_eq!(words(0, 0x0028_0010), "kept; SQ: walked into");
+        assert_eq!(words(0, 0x0002_0003), "refused (No. 7): no data set may have such an element");
         assert_eq!(words(0, 0x0018_11BB), "replaced by a dummy; UI: UIDs renamed");
         assert_eq!(words(0, 0x0020_000D), "UIDs renamed (UI); SQ: walked into; others: refused (No. 11)");
         assert_eq!(

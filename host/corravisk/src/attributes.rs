@@ -80,6 +80,18 @@ pub fn name(tag: u32) -> Option<&'static str> {
     }
 }
 
+/// The VR that an attribute of this tag has, as far as its name tells: the table has none. For text any VR that
+/// takes text will do.
+pub fn likely_vr(tag: u32) -> [u8; 2] {
+    match name(tag) {
+        Some(name) if name.ends_with("Sequence") => *b"SQ",
+        Some(name) if name.ends_with("DateTime") => *b"DT",
+        Some(name) if name.ends_with("Date") => *b"DA",
+        Some(name) if name.ends_with("Time") => *b"TM",
+        _ => *b"LO",
+    }
+}
+
 const COMMON: [(u32, &str); 45] = [
     (0x0008_0005, "Specific Character Set"),
     (0x0008_0008, "Image Type"),

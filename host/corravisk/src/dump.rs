@@ -6,7 +6,7 @@ use std::path::Path;
 
 use crate::arguments::Arguments;
 use crate::attributes;
-use crate::files::read_data_set;
+use crate::files::{has_header, read_data_set};
 use crate::refusals::Refusal;
 use crate::stop::Stop;
 use crate::text;
@@ -31,7 +31,7 @@ pub fn run(arguments: Arguments, out: &mut impl Write) -> Result<(), Stop> {
     if answer.refusal != 0 {
         out.flush()?;
         let refusal = Refusal { number: answer.refusal, offset: answer.offset };
-        eprintln!("{}", refusal.line(&path.display().to_string()));
+        refusal.tell(path, has_header(&data));
         return Err(Stop::Refused);
     }
     Ok(())

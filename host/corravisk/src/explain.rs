@@ -4,20 +4,27 @@ use std::io::Write;
 
 use crate::actions::Actions;
 use crate::arguments::Arguments;
-use crate::attributes::{Row, read_tag, rows};
+use crate::attributes::{self, Row, read_tag, rows};
 use crate::json::Json;
+use crate::printer::tell;
 use crate::settings::Settings;
 use crate::stop::Stop;
-use crate::summary::{Summary, written};
+use crate::summary::{Summary, from_list};
 use crate::text;
 
 /// Rules beside the table, each with a tag to ask for.
-const RULES: [Row; 4] = [
+const RULES: [Row; 6] = [
     Row { printed: "(gggg,0000)", name: "Group Length, of any group", tag: 0x0010_0000 },
     Row {
         printed: "(0012,0062)",
         name: "Patient Identity Removed, top level; then written anew",
         tag: 0x0012_0062,
+    },
+    Row { printed: "(0012,0063)", name: "De-identification Method, the same", tag: 0x0012_0063 },
+    Row {
+        printed: "(0012,0064)",
+        name: "De-identification Method Code Sequence, the same",
+        tag: 0x0012_0064,
     },
     Row {
         printed: "(0028,0303)",
@@ -33,8 +40,8 @@ struct Explained {
     words: String,
     /// What would be done without options, if that is something else.
     basic: Option<String>,
-    /// What a list writes.
-    listed: Option<String>,
+    /// What a list writes, and which.
+    listed: Option<(&'static str, String)>,
 }
 
 pub fn run(mut arguments: Arguments, out: &mut impl Write) -> Result<(), Stop> {
@@ -44,7 +51,14 @@ pub fn run(mut arguments: Arguments, out: &mut impl Write) -> Result<(), Stop> {
         return Err(Stop::Usage(format!("explain takes settings alone, not {}", word.display())));
     }
     if let Err(refusal) = settings.judge(&[], 0) {
-        eprintln!("{}", refusal.line(&settings.line_at_fault().unwrap_or("the settings".into())));
+        let line = settings.line(refusal);
+        if json {
+            let settings = Settings { root: String::new(), ..settings }.json();
+            let report = vec![("settings", settings), ("refusal", refusal.json())];
+            writeln!(out, "{}", Json::Object(report))?;
+            out.flush()?;
+        }
+        tell(line);
         return Err(Stop::Refused);
     }
     let settings = Settings { root: String::new(), ..settings };
@@ -53,6 +67,7 @@ pub fn run(mut arguments: Arguments, out: &mut impl Write) -> Result<(), Stop> {
         let rows = explained.map(|explained| explained.json()).collect();
         let report = vec![
             ("settings", settings.json()),
+            ("refusal", Json::Null),
             ("because_of", Summary::of(&settings).json()),
             ("rows", Json::List(rows)),
         ];
@@ -69,14 +84,11 @@ pub fn run(mut arguments: Arguments, out: &mut impl Write) -> Result<(), Stop> {
 fn explain(row: &Row, settings: &Settings) -> Explained {
     let now = Actions::of(settings.options, true, row.tag);
     let basic = Actions::of(0, true, row.tag);
-    let is_listed = |tag| settings.lists.iter().any(|list| list.entries.iter().any(|entry| entry.tag == tag));
-    let listed =
-        read_tag(row.printed).filter(|&tag| is_listed(tag)).and_then(|tag| written(settings, tag, *b"LO"));
     Explained {
         row: *row,
         words: now.words(),
         basic: (basic != now).then(|| basic.main().words()),
-        listed: listed.map(|value| text::quoted(text::trimmed(&value))),
+        listed: read_tag(row.printed).and_then(|tag| from_list(settings, tag, attributes::likely_vr(tag))),
     }
 }
 
@@ -86,7 +98,11 @@ impl Explained {
         let Row { printed, name, .. } = self.row;
         let basic =
             self.basic.as_ref().map(|basic| format!("   [without --keep: {basic}]")).unwrap_or_default();
-        let listed = self.listed.as_ref().map(|value| format!("   list: {value}")).unwrap_or_default();
+        let listed = self
+            .listed
+            .as_ref()
+            .map(|(name, value)| format!("   {name} list: {}", text::quoted(value.as_bytes())));
+        let listed = listed.unwrap_or_default();
         let printed = if printed.contains("odd") { "private" } else { printed };
         format!("{mark} {printed:<11} {name:<56} {}{listed}{basic}", self.words)
     }
@@ -98,7 +114,8 @@ impl Explained {
             ("name", self.row.name.into()),
             ("action", self.words.into()),
             ("without_keep", text(self.basic)),
-            ("list", text(self.listed)),
+            ("list", text(self.listed.as_ref().map(|(name, _)| name.to_string()))),
+            ("value", text(self.listed.map(|(_, value)| value))),
         ])
     }
 }

@@ -11,52 +11,92 @@ use std::path::{Path, PathBuf};
 use library::Report;
 
 use crate::arguments::Arguments;
-use crate::files::{NewFile, is_same, name_both, read_data_set};
+use crate::files::{NewFile, guard_written, has_header, is_same, name_both, read_data_set};
 use crate::json::Json;
 use crate::ledger::Ledger;
+use crate::printer::{Printer, tell};
 use crate::progress::Progress;
 use crate::refusals::Refusal;
 use crate::settings::Settings;
 use crate::stop::Stop;
 use crate::summary::Summary;
 
-pub fn run(mut arguments: Arguments, out: &mut impl Write) -> Result<(), Stop> {
+pub fn run(mut arguments: Arguments, out: &mut Printer<impl Write>) -> Result<(), Stop> {
+    // Whether what is printed is read decides nothing about what is written.
+    out.go_on();
     let json = arguments.flag("--json")?;
-    let root = arguments.text("--root")?;
-    let ledger = arguments.path("--ledger")?;
-    let mut settings = Settings::from(&mut arguments)?;
-    let jobs = jobs(arguments.words()?)?;
-    settings.root = root.ok_or_else(|| Stop::Usage("export needs --root, the root of new UIDs".into()))?;
-    guard_inputs(&jobs, &settings, ledger.as_deref())?;
+    let outcome = match Call::from(arguments) {
+        Ok(call) => call.run(json, out),
+        Err(stop) => {
+            if json {
+                let error = vec![("input", Json::Null), ("what", stop.to_string().into())];
+                let report = vec![("error", Json::Object(error)), ("exports", Json::List(vec![]))];
+                writeln!(out, "{}", Json::Object(report))?;
+            }
+            Err(stop)
+        }
+    };
+    out.flush()?;
+    out.tell_trouble();
+    outcome
+}
 
-    let mut ledger = Ledger::open(ledger)?;
-    if let Err(refusal) = settings.judge(&ledger.bytes, ledger.used) {
-        return refuse_all(refusal, &settings, json, out);
+/// What a call asks for.
+struct Call {
+    settings: Settings,
+    jobs: Vec<Job>,
+    ledger: Ledger,
+}
+
+impl Call {
+    fn from(mut arguments: Arguments) -> Result<Call, Stop> {
+        let root = arguments.text("--root")?;
+        let ledger = arguments.path("--ledger")?;
+        let mut settings = Settings::from(&mut arguments)?;
+        let jobs = jobs(arguments.words()?)?;
+        settings.root =
+            root.ok_or_else(|| Stop::Usage("export needs --root, the root of new UIDs".into()))?;
+        guard_inputs(&jobs, &settings, ledger.as_deref())?;
+        Ok(Call { settings, jobs, ledger: Ledger::open(ledger)? })
     }
-    let summary = Summary::of(&settings);
-    if !json {
-        summary.print(out)?;
-        print_ledger(&ledger, out)?;
-        out.flush()?;
-    }
-    let (reports, stop) = export_all(&jobs, &settings, &mut ledger, out, json)?;
-    if json {
-        let exports = jobs.iter().zip(&reports).map(|(job, report)| job.json(report));
-        let report = Json::Object(vec![
-            ("settings", settings.json()),
-            ("because_of", summary.json()),
-            ("ledger", ledger_json(&ledger)),
-            ("refusal", Json::Null),
-            ("exports", Json::List(exports.collect())),
-        ]);
-        writeln!(out, "{report}")?;
-    } else {
-        print_end(&reports, &ledger, out)?;
-    }
-    match stop {
-        Some(stop) => Err(stop),
-        None if reports.iter().any(|report| report.refusal != 0) => Err(Stop::Refused),
-        None => Ok(()),
+
+    fn run(self, json: bool, out: &mut impl Write) -> Result<(), Stop> {
+        let Call { settings, jobs, mut ledger } = self;
+        if let Err(refusal) = settings.judge(&ledger.bytes, ledger.used) {
+            return refuse_all(refusal, &settings, json, out);
+        }
+        let summary = Summary::of(&settings);
+        if !json {
+            summary.print(out)?;
+            print_ledger(&ledger, out)?;
+            out.flush()?;
+        }
+        let (reports, stop) = export_all(&jobs, &settings, &mut ledger, out, json)?;
+        if json {
+            let exports = jobs.iter().zip(&reports).map(|(job, report)| job.json(report));
+            let mut left = jobs[reports.len()..].iter().map(|job| job.input.display().to_string());
+            let error = stop.as_ref().map_or(Json::Null, |stop| {
+                let input = left.next().map_or(Json::Null, Json::Text);
+                Json::Object(vec![("input", input), ("what", stop.to_string().into())])
+            });
+            let report = Json::Object(vec![
+                ("settings", settings.json()),
+                ("because_of", summary.json()),
+                ("ledger", ledger_json(&ledger)),
+                ("refusal", Json::Null),
+                ("error", error),
+                ("exports", Json::List(exports.collect())),
+                ("not_tried", Json::List(left.map(Json::Text).collect())),
+            ]);
+            writeln!(out, "{report}")?;
+        } else {
+            print_end(&jobs, &reports, &ledger, out)?;
+        }
+        match stop {
+            Some(stop) => Err(stop),
+            None if reports.iter().any(|report| report.refusal != 0) => Err(Stop::Refused),
+            None => Ok(()),
+        }
     }
 }
 
@@ -107,6 +147,8 @@ fn guard_inputs(jobs: &[Job], settings: &Settings, ledger: Option<&Path>) -> Res
             return Err(Stop::Usage(format!("{} is read, so it cannot be written", path.display())));
         }
     }
+    // Before anything is done, so that it is all or nothing.
+    written.clone().try_for_each(guard_written)?;
     match ledger {
         Some(ledger) if written.clone().any(|output| is_same(output, ledger)) => {
             Err(Stop::Usage(format!("{} cannot be both output and ledger", ledger.display())))
@@ -123,8 +165,7 @@ fn refuse_all(refusal: Refusal, settings: &Settings, json: bool, out: &mut impl 
         writeln!(out, "{}", Json::Object(report))?;
         out.flush()?;
     }
-    let at_fault = if refusal.number == 4 { settings.line_at_fault() } else { None };
-    eprintln!("{}", refusal.line(&at_fault.unwrap_or("the settings".into())));
+    tell(settings.line(refusal));
     Err(Stop::Refused)
 }
 
@@ -142,14 +183,14 @@ fn export_all(
         progress.show(done);
         let outcome = job.run(settings, ledger);
         progress.clear();
-        let report = match outcome {
-            Ok(report) => report,
+        let (report, has_header) = match outcome {
+            Ok(done) => done,
             Err(stop) => return Ok((reports, Some(stop))),
         };
         if report.refusal != 0 {
             out.flush()?;
             let refusal = Refusal { number: report.refusal, offset: report.offset };
-            eprintln!("{}", refusal.line(&job.input.display().to_string()));
+            refusal.tell(&job.input, has_header);
         } else if !json {
             writeln!(out, "{}", job.line(&report))?;
         }
@@ -159,8 +200,8 @@ fn export_all(
 }
 
 impl Job {
-    /// Exports, and writes output and ledger both or neither.
-    fn run(&self, settings: &Settings, ledger: &mut Ledger) -> Result<Report, Stop> {
+    /// Exports, and writes output and ledger both or neither. Says also whether the input looks like a whole file.
+    fn run(&self, settings: &Settings, ledger: &mut Ledger) -> Result<(Report, bool), Stop> {
         let data = read_data_set(&self.input)?;
         let Exported { report, out, ledger: slots } = exported(settings, &data, ledger);
         if report.refusal == 0 {
@@ -169,7 +210,7 @@ impl Job {
             name_both(new_ledger, ledger.in_use(), output)?;
             ledger.hand_on(slots, report.used);
         }
-        Ok(report)
+        Ok((report, has_header(&data)))
     }
 
     fn line(&self, report: &Report) -> String {
@@ -222,25 +263,32 @@ fn exported(settings: &Settings, data: &[u8], ledger: &Ledger) -> Exported {
 }
 
 fn print_ledger(ledger: &Ledger, out: &mut impl Write) -> Result<(), Stop> {
-    Ok(match &ledger.path {
+    Ok(match &ledger.named {
         None => writeln!(out, "ledger      none: another call will give the same new UIDs to other old ones"),
         Some(path) => writeln!(out, "ledger      {}, {} UIDs known", path.display(), ledger.before),
     }?)
 }
 
-fn print_end(reports: &[Report], ledger: &Ledger, out: &mut impl Write) -> Result<(), Stop> {
+fn print_end(jobs: &[Job], reports: &[Report], ledger: &Ledger, out: &mut impl Write) -> Result<(), Stop> {
     let done = reports.iter().filter(|report| report.refusal == 0).count();
-    if reports.len() > 1 {
-        writeln!(out, "{done} exported, {} refused", reports.len() - done)?;
+    if jobs.len() > 1 {
+        let left = match jobs.len() - reports.len() {
+            0 => String::new(),
+            left => format!(", {left} not exported for trouble with a file"),
+        };
+        writeln!(out, "{done} exported, {} refused{left}", reports.len() - done)?;
     }
-    if let Some(path) = &ledger.path {
-        writeln!(out, "ledger      {}, {} UIDs known now", path.display(), ledger.used)?;
+    match &ledger.named {
+        None => Ok(()),
+        Some(path) if ledger.is_there() => {
+            Ok(writeln!(out, "ledger      {}, {} UIDs known now", path.display(), ledger.used)?)
+        }
+        Some(path) => Ok(writeln!(out, "ledger      {}, not written", path.display())?),
     }
-    Ok(())
 }
 
 fn ledger_json(ledger: &Ledger) -> Json {
-    let path = ledger.path.as_ref().map(|path| path.display().to_string());
+    let path = ledger.named.as_ref().map(|path| path.display().to_string());
     Json::Object(vec![
         ("file", path.map_or(Json::Null, Json::Text)),
         ("before", ledger.before.into()),

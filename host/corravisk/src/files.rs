@@ -52,9 +52,7 @@ impl NewFile {
     fn write(path: &Path, bytes: &[u8], options: &OpenOptions) -> Result<NewFile, Stop> {
         let trouble = |error| Stop::at("write", path, error);
         let name = path.file_name().ok_or_else(|| Stop::Usage(format!("not a file: {}", path.display())))?;
-        if path.is_dir() {
-            return Err(trouble(io::ErrorKind::IsADirectory.into()));
-        }
+        guard_written(path)?;
         let mut hidden = OsString::from(".");
         hidden.push(name);
         hidden.push(format!(".corravisk-{}", process::id()));
@@ -108,6 +106,41 @@ pub fn name_both(ledger: Option<NewFile>, old_ledger: &[u8], output: NewFile) ->
             Err(Stop::Trouble(format!("{stop}; and {back}: it knows UIDs of an export that is not there")))
         }
     }
+}
+
+/// What is written takes the place of a file or of nothing. A folder, a pipe or a device is no place for it, and a
+/// link would be replaced instead of the file that it points to.
+pub fn guard_written(path: &Path) -> Result<(), Stop> {
+    let is = match fs::symlink_metadata(path) {
+        Ok(there) if there.is_file() => return Ok(()),
+        Ok(there) if there.is_dir() => "a folder",
+        Ok(there) if there.is_symlink() => "a link; name the file itself",
+        Ok(_) => "no regular file",
+        // If it is not for a file that is not there yet, the writing will tell.
+        Err(_) => return Ok(()),
+    };
+    Err(Stop::Usage(format!("cannot write {}: it is {is}", path.display())))
+}
+
+/// A path without links, also of a file that is not there yet.
+pub fn real_path(path: &Path) -> Result<PathBuf, Stop> {
+    match path.canonicalize() {
+        Ok(real) => Ok(real),
+        // A link to nothing stays one, and is told where it is to be written.
+        Err(error) if error.kind() == io::ErrorKind::NotFound => {
+            let name =
+                path.file_name().ok_or_else(|| Stop::Usage(format!("not a file: {}", path.display())))?;
+            let folder = folder_of(path);
+            let real = folder.canonicalize().map_err(|error| Stop::at("open", folder, error))?;
+            Ok(real.join(name))
+        }
+        Err(error) => Err(Stop::at("open", path, error)),
+    }
+}
+
+/// Whether bytes begin as a whole DICOM file does.
+pub fn has_header(data: &[u8]) -> bool {
+    data.get(128..132) == Some(b"DICM")
 }
 
 /// The folder that a file is in.

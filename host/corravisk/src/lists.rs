@@ -6,6 +6,7 @@ use std::path::PathBuf;
 
 use crate::attributes::read_tag;
 use crate::stop::Stop;
+use crate::text;
 
 /// One of the two lists.
 pub struct List {
@@ -35,7 +36,8 @@ impl List {
         let text = fs::read(&path).map_err(|error| Stop::at("read", &path, error))?;
         let text = String::from_utf8(text)
             .map_err(|_| Stop::Usage(format!("{}: a list is text, and this is not", path.display())))?;
-        let entries = read_lines(&text)
+        // Some editors put a mark in front of the text.
+        let entries = read_lines(text.strip_prefix('\u{FEFF}').unwrap_or(&text))
             .map_err(|(line, what)| Stop::Usage(format!("{} line {line}: {what}", path.display())))?;
         Ok(List { path: Some(path), ..List::of(entries) })
     }
@@ -45,6 +47,24 @@ impl List {
         entries.sort_by_key(|entry| entry.tag);
         let bytes = entries.iter().flat_map(encoded).collect();
         List { path: None, entries, bytes }
+    }
+
+    /// Which part of document 01's rule the entry at this place breaks, if it can be told. Whether it breaks one
+    /// is the library's to judge.
+    pub fn why(&self, place: usize) -> Option<&'static str> {
+        let Entry { tag, value, .. } = &self.entries[place];
+        let is_repeated = place > 0 && self.entries[place - 1].tag == *tag;
+        match value {
+            _ if is_repeated => Some("its tag has a line before it"),
+            value if value.is_empty() => Some("its value is empty"),
+            value if value.len() > 64 => Some("its value is longer than 64 characters"),
+            value if value.contains('\\') => Some("its value has a backslash"),
+            value if !text::is_printable(value.as_bytes()) => {
+                Some("its value has a character that is not printable ASCII")
+            }
+            _ if place >= 256 => Some("the list has more than 256 entries"),
+            _ => None,
+        }
     }
 
     /// The same list with its first entries alone.

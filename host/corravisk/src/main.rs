@@ -13,6 +13,7 @@
 //! | `stop` | why it ends early, and with which status |
 //! | `settings`, `lists`, `ledger` | options by name, lists as text, the ledger's file |
 //! | `files` | new files that take their name when they are whole; output and ledger both or neither |
+//! | `printer` | printing, and what becomes of a reader that goes away |
 //! | `export`, `summary` | the main job, and what its settings mean |
 //! | `explain`, `actions` | what is done with each attribute of the table |
 //! | `view`, `dump`, `walk` | what stands in a data set |
@@ -28,6 +29,7 @@ mod files;
 mod json;
 mod ledger;
 mod lists;
+mod printer;
 mod progress;
 mod refusals;
 mod settings;
@@ -41,15 +43,16 @@ mod walk;
 
 use std::env;
 use std::ffi::OsString;
-use std::io::{self, BufWriter, Write};
+use std::io::{self, Write};
 use std::process::ExitCode;
 
 use arguments::Arguments;
+use printer::Printer;
 use stop::Stop;
 
 fn main() -> ExitCode {
     let words: Vec<OsString> = env::args_os().skip(1).collect();
-    let mut out = BufWriter::new(io::stdout().lock());
+    let mut out = Printer::new(io::stdout().lock());
     let outcome = answer_to(words, &mut out).and_then(|()| Ok(out.flush()?));
     match outcome {
         Ok(()) => ExitCode::SUCCESS,
@@ -63,7 +66,7 @@ fn main() -> ExitCode {
 }
 
 /// Does what the words ask for.
-fn answer_to(words: Vec<OsString>, out: &mut impl Write) -> Result<(), Stop> {
+fn answer_to(words: Vec<OsString>, out: &mut Printer<impl Write>) -> Result<(), Stop> {
     let mut words = words.into_iter();
     let Some(command) = words.next() else {
         return Err(Stop::Usage("no command; one of export, view, dump, explain".into()));

@@ -18,7 +18,8 @@ impl Progress {
     pub fn show(&self, done: usize) {
         if self.is_shown {
             let full = WIDTH * done / self.total;
-            eprint!("\r[{}{}] {done}/{}", "#".repeat(full), " ".repeat(WIDTH - full), self.total);
+            let (bar, rest) = ("#".repeat(full), " ".repeat(WIDTH - full));
+            let _ = write!(io::stderr(), "\r[{bar}{rest}] {done}/{}", self.total);
             let _ = io::stderr().flush();
         }
     }
@@ -26,7 +27,7 @@ impl Progress {
     /// Makes the line free for something else to be told.
     pub fn clear(&self) {
         if self.is_shown {
-            eprint!("\r{}\r", " ".repeat(WIDTH + 24));
+            let _ = write!(io::stderr(), "\r{}\r", " ".repeat(WIDTH + 24));
         }
     }
 }

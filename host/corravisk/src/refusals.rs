@@ -1,6 +1,9 @@
 //! The fourteen refusals in words, and how they are told.
 
+use std::path::Path;
+
 use crate::json::Json;
+use crate::printer::tell;
 
 /// A refusal of the station.
 #[derive(Clone, Copy, Debug, PartialEq, Eq)]
@@ -46,6 +49,17 @@ impl Refusal {
         let Refusal { number, offset } = self;
         let place = if self.has_place() { format!(" at offset {offset}") } else { String::new() };
         format!("corravisk: {subject}: refused, No. {number}{place}: {}", self.condition())
+    }
+
+    /// Tells it on standard error, with a hint where the data set looks like a whole file.
+    pub fn tell(self, path: &Path, has_header: bool) {
+        let path = path.display();
+        tell(self.line(&path.to_string()));
+        if has_header {
+            tell(format_args!(
+                "corravisk: {path}: this looks like a file with a header; only bare data sets are taken"
+            ));
+        }
     }
 
     pub fn json(self) -> Json {

@@ -13,6 +13,10 @@ use crate::stop::Stop;
 /// The options, by bit of the option number.
 pub const OPTIONS: [&str; 6] = ["full-dates", "modified-dates", "patient", "device", "uids", "institution"];
 
+/// The bit of modified-dates, and those of both options about dates.
+pub const MODIFIED_DATES: u64 = 2;
+const DATES: u64 = 3;
+
 /// What the two lists are called.
 pub const LISTS: [&str; 2] = ["study", "site"];
 
@@ -36,6 +40,14 @@ impl Settings {
             Some(text) => text
                 .parse()
                 .map_err(|_| Stop::Usage(format!("--shift-days: not a whole number of days: {text}")))?,
+            // Dates that were to be shifted and go out as they came would be told by nothing in the export. With
+            // full-dates beside it the library refuses.
+            None if options & DATES == MODIFIED_DATES => {
+                return Err(Stop::Usage(
+                    "--keep modified-dates needs --shift-days, the days to shift by; 0 if that is meant"
+                        .into(),
+                ));
+            }
             None => 0,
         };
         let [study, site]: [Option<PathBuf>; 2] = [arguments.path("--study")?, arguments.path("--site")?];
@@ -72,8 +84,19 @@ impl Settings {
         }
     }
 
-    /// The line at which the first list breaks its rule, found by handing the library ever more of the list.
-    pub fn line_at_fault(&self) -> Option<String> {
+    /// A refusal of these settings in words; one of a list (No. 4) with the line at fault.
+    pub fn line(&self, refusal: Refusal) -> String {
+        let at_fault = if refusal.number == 4 { self.line_at_fault() } else { None };
+        match at_fault {
+            Some((at, Some(why))) => format!("{}: {why}", refusal.line(&at)),
+            Some((at, None)) => refusal.line(&at),
+            None => refusal.line("the settings"),
+        }
+    }
+
+    /// The line at which the first list breaks its rule, found by handing the library ever more of the list, and
+    /// what is wrong with it, if that can be told.
+    fn line_at_fault(&self) -> Option<(String, Option<&'static str>)> {
         for (place, name) in LISTS.into_iter().enumerate() {
             let list = &self.lists[place];
             for (count, entry) in (1..).zip(&list.entries) {
@@ -82,7 +105,10 @@ impl Settings {
                 let part = Settings { lists, root: "1".into(), options: 0, shift: 0 };
                 if part.judge(&[], 0).is_err() {
                     let file = list.path.as_deref().unwrap_or(Path::new("")).display();
-                    return Some(format!("the {name} list, {file} line {}", entry.line));
+                    return Some((
+                        format!("the {name} list, {file} line {}", entry.line),
+                        list.why(count - 1),
+                    ));
                 }
             }
         }

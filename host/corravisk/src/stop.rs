@@ -4,6 +4,8 @@ use std::path::Path;
 use std::process::ExitCode;
 use std::{fmt, io};
 
+use crate::printer::tell;
+
 /// Why the command ends before all was done.
 #[derive(Debug)]
 pub enum Stop {
@@ -13,7 +15,7 @@ pub enum Stop {
     Usage(String),
     /// A file cannot be read or written. Status 2.
     Trouble(String),
-    /// Whoever read what is printed has gone away. Status 0, as nothing is wrong.
+    /// Whoever read what is printed has gone away. Status 0, as nothing is wrong; an export never ends so.
     Unheard,
 }
 
@@ -27,8 +29,8 @@ impl Stop {
     pub fn tell(&self) {
         match self {
             Stop::Refused | Stop::Unheard => {}
-            Stop::Usage(what) => eprintln!("corravisk: {what}\nTry: corravisk help"),
-            Stop::Trouble(what) => eprintln!("corravisk: {what}"),
+            Stop::Usage(what) => tell(format_args!("corravisk: {what}\nTry: corravisk help")),
+            Stop::Trouble(what) => tell(format_args!("corravisk: {what}")),
         }
     }
 

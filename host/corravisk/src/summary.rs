@@ -9,8 +9,9 @@ use crate::actions::{Action, Actions};
 use crate::attributes::{self, Row, rows};
 use crate::json::Json;
 use crate::lists::Entry;
-use crate::settings::{LISTS, OPTIONS, Settings};
+use crate::settings::{LISTS, MODIFIED_DATES, OPTIONS, Settings};
 use crate::text;
+use crate::vrs;
 
 /// Attributes that are always told, with the VR that they should have: the first two must never be kept.
 const TOLD: [(u32, [u8; 2]); 7] = [
@@ -58,23 +59,21 @@ impl Summary<'_> {
             "keep        {}",
             if kept.is_empty() { "nothing beside the basic profile".into() } else { kept.join(", ") }
         )?;
-        if *options & 2 != 0 {
-            writeln!(out, "dates       shifted by {shift} days")?;
+        if *options & MODIFIED_DATES != 0 {
+            writeln!(out, "dates       shifted by {shift} days; times are kept as they came")?;
         }
         for (name, list) in LISTS.into_iter().zip(lists) {
             let Some(path) = &list.path else { continue };
             writeln!(out, "{:<11} {}", format!("{name} list"), path.display())?;
             for entry in &list.entries {
-                writeln!(out, "            {}", self.entry_line(entry))?;
+                writeln!(out, "            {}", self.entry_line(name, entry))?;
             }
         }
         for (tag, vr) in TOLD {
             writeln!(out, "{}", self.told(tag, vr))?;
         }
-        for (tag, _) in &TOLD[..NEVER_KEPT] {
-            if Actions::of(*options, true, *tag).keeps_something() {
-                writeln!(out, "WARNING: {} goes out as it came in", attributes::printed(*tag))?;
-            }
+        for warning in TOLD[..NEVER_KEPT].iter().filter_map(|(tag, _)| warning(*options, *tag)) {
+            writeln!(out, "{warning}")?;
         }
         for (name, changed) in &self.changes {
             print_changes(name, changed, out)?;
@@ -84,37 +83,34 @@ impl Summary<'_> {
 
     /// What becomes of one attribute.
     fn told(&self, tag: u32, vr: [u8; 2]) -> String {
-        let listed = self.settings.lists.iter().any(|list| list.entries.iter().any(|entry| entry.tag == tag));
-        let words = match written(self.settings, tag, vr) {
-            Some(value) if listed && !value.is_empty() => {
-                format!("replaced by {}, from a list", text::quoted(text::trimmed(&value)))
+        let words = match from_list(self.settings, tag, vr) {
+            Some((list, value)) => {
+                format!("replaced by {}, from the {list} list", text::quoted(value.as_bytes()))
             }
-            _ => Action::of(self.settings.options, true, tag, vr).words(),
+            None => Action::of(self.settings.options, true, tag, vr).words(),
         };
         format!("{} {}: {words}", attributes::printed(tag), attributes::name(tag).unwrap_or_default())
     }
 
-    /// What a list has, and whether that is written: asked with an empty LO of that tag.
-    fn entry_line(&self, entry: &Entry) -> String {
+    /// What a list has, and whether that is written: asked with an empty element of that tag.
+    fn entry_line(&self, list: &str, entry: &Entry) -> String {
         let tag = attributes::printed(entry.tag);
         let name = attributes::name(entry.tag).unwrap_or("(no name known)");
         let value = text::quoted(entry.value.as_bytes());
-        let is_written = written(self.settings, entry.tag, *b"LO").is_some_and(|given| {
-            given == entry.value.as_bytes() || text::trimmed(&given) == entry.value.as_bytes()
-        });
-        let note = if is_written {
-            String::new()
-        } else {
-            format!("  NOT USED: such an element is {}", self.instead(entry))
+        let vr = attributes::likely_vr(entry.tag);
+        let note = match from_list(self.settings, entry.tag, vr) {
+            Some((from, _)) if from == list => String::new(),
+            Some((from, other)) => {
+                let other = text::quoted(other.as_bytes());
+                format!("  NOT USED: such an element is given {other}, from the {from} list")
+            }
+            None if vr == *b"SQ" => "  NOT USED: no list gives a sequence a value".into(),
+            None => {
+                let words = Actions::of(self.settings.options, true, entry.tag).words();
+                format!("  NOT USED; what is done: {words}")
+            }
         };
         format!("{tag} {name} = {value}{note}")
-    }
-
-    fn instead(&self, entry: &Entry) -> String {
-        match written(self.settings, entry.tag, *b"LO") {
-            Some(other) if !other.is_empty() => format!("given {}", text::quoted(text::trimmed(&other))),
-            _ => Actions::of(self.settings.options, true, entry.tag).words(),
-        }
     }
 
     pub fn json(&self) -> Json {
@@ -147,18 +143,38 @@ fn print_changes(option: &str, changed: &[(&Row, Actions)], out: &mut impl Write
     for (now, names) in groups {
         let shown = names[..names.len().min(NAMED)].join(", ");
         let more = if names.len() > NAMED { ", .. (all: corravisk explain)" } else { "" };
-        let what = now.main().words();
+        let what = match now.shifts_dates_alone() {
+            true => "dates shifted, times kept as they came".into(),
+            false => now.main().words(),
+        };
         writeln!(out, "because of {option}, {what}: {} attributes: {shown}{more}", names.len())?;
     }
     Ok(())
 }
 
+/// What to say of an attribute that must never be kept, if some of it is.
+fn warning(options: u64, tag: u32) -> Option<String> {
+    let keeps = Actions::of(options, true, tag).keeps_something();
+    keeps.then(|| format!("WARNING: {} goes out as it came in", attributes::printed(tag)))
+}
+
+/// The list whose value the library writes for an element with this tag and this VR, and that value. Where both
+/// lists have it, the study's is named.
+pub fn from_list(settings: &Settings, tag: u32, vr: [u8; 2]) -> Option<(&'static str, String)> {
+    let mut entries = LISTS.into_iter().zip(&settings.lists).flat_map(|(name, list)| {
+        list.entries.iter().filter(move |entry| entry.tag == tag).map(move |entry| (name, &entry.value))
+    });
+    let given = written(settings, tag, vr)?;
+    let is_given = |value: &str| given == value.as_bytes() || text::trimmed(&given) == value.as_bytes();
+    entries.find(|(_, value)| is_given(value)).map(|(name, value)| (name, value.clone()))
+}
+
 /// What the library writes for an element with this tag and this VR that is empty; none if it writes no such
 /// element or refuses it.
-pub fn written(settings: &Settings, tag: u32, vr: [u8; 2]) -> Option<Vec<u8>> {
+fn written(settings: &Settings, tag: u32, vr: [u8; 2]) -> Option<Vec<u8>> {
     let mut data = tag.rotate_left(16).to_le_bytes().to_vec();
     data.extend(vr);
-    data.extend([0, 0]);
+    data.extend(if vrs::has_long_header(vr) { &[0; 6][..] } else { &[0; 2] });
     let request = Request { root: b"1", ..settings.request(&data, 0) };
     let mut out = [0; 4_096];
     let report = library::deidentify(&request, &mut [], &mut out);
@@ -166,4 +182,17 @@ pub fn written(settings: &Settings, tag: u32, vr: [u8; 2]) -> Option<Vec<u8>> {
     let answer = library::view(export, tag.into());
     let part = export.get(answer.start as usize..(answer.start + answer.length) as usize)?;
     (answer.found == 1).then(|| part.to_vec())
+}
+
+#[cfg(test)]
+mod tests {
+    use super::*;
+
+    #[test]
+    fn what_is_kept_is_warned_of() {
+        // Rows is kept, the name is not.
+        let rows = warning(0, 0x0028_0010);
+        assert_eq!(rows.as_deref(), Some("WARNING: (0028,0010) goes out as it came in"));
+        assert_eq!(warning(0b11_1100, 0x0010_0010), None);
+    }
 }

@@ -18,10 +18,9 @@ Exit status: 0 done, 1 refused (number and condition on standard error), 2 a wro
 read or written.
 ";
 
-const SETTINGS: &str = "\
-  --keep NAME,..     keep more than the basic profile does: full-dates or modified-dates, patient, device, uids,
+const SETTINGS: &str = "  --keep NAME,..     keep more than the basic profile does: full-dates or modified-dates, patient, device, uids,
                      institution
-  --shift-days N     with modified-dates: shift dates by N days, -36500 to 36500 (0 if not given)
+  --shift-days N     with modified-dates, and needed there: shift dates by N days, -36500 to 36500
   --study FILE       values to write, one a line: 0010,0010 SUBJ7
   --site FILE        the same; asked where the study's list has nothing
 ";
@@ -35,8 +34,7 @@ Writes IN with the patient taken out. OUT takes its name only when it is whole; 
   --root UID         new UIDs are this, a dot and a number; at most 59 characters
 ";
 
-const EXPORT_MORE: &str = "\
-  --ledger FILE      the UIDs met so far; read, and written anew with each export. Without it, numbers start at 1
+const EXPORT_MORE: &str = "  --ledger FILE      the UIDs met so far; read, and written anew with each export. Without it, numbers start at 1
                      and another call gives the same new UIDs to other old ones
   --json             a report for programs on standard output
 ";

@@ -5,8 +5,9 @@ use std::path::Path;
 
 use crate::arguments::Arguments;
 use crate::attributes;
-use crate::files::read_data_set;
+use crate::files::{has_header, read_data_set};
 use crate::json::Json;
+use crate::printer::tell;
 use crate::refusals::Refusal;
 use crate::stop::Stop;
 use crate::text;
@@ -47,7 +48,8 @@ pub fn run(mut arguments: Arguments, out: &mut impl Write) -> Result<(), Stop> {
     } else if raw {
         out.write_all(part)?;
         if !found && refusal.is_none() {
-            eprintln!("corravisk: {}: {} is absent", path.display(), attributes::printed(tag));
+            let (path, tag) = (path.display(), attributes::printed(tag));
+            tell(format_args!("corravisk: {path}: {tag} is absent"));
         }
     } else if refusal.is_none() {
         let name = attributes::name(tag).map(|name| format!(" {name}")).unwrap_or_default();
@@ -61,7 +63,7 @@ pub fn run(mut arguments: Arguments, out: &mut impl Write) -> Result<(), Stop> {
     match refusal {
         Some(refusal) => {
             out.flush()?;
-            eprintln!("{}", refusal.line(&path.display().to_string()));
+            refusal.tell(path, has_header(&data));
             Err(Stop::Refused)
         }
         None => Ok(()),

@@ -3,8 +3,11 @@
 use library::{Request, deidentify};
 use std::thread;
 
-/// What document 01's figure allows is 256 KiB. Half of that is given here, to the thread and its own frames included.
+/// The figure to keep is 256 KiB. Half of that is given here, to the thread and its own frames included.
 const STACK: usize = 128 * 1024;
+
+/// A study's list: (0010,0010) SUBJ7.
+const STUDY: &[u8] = b"\x90\x80\x40\x05SUBJ7";
 
 /// An element with a short header.
 fn element(tag: (u16, u16), vr: &[u8; 2], value: &[u8]) -> Vec<u8> {
@@ -36,11 +39,15 @@ fn nested(depth: usize) -> Vec<u8> {
 fn a_run_needs_little_stack() {
     let run = || {
         let data = nested(8);
-        let request = Request { data: &data, options: 2, shift: -1, root: b"1.9", study: b"", site: b"", used: 0 };
+        let request =
+            Request { data: &data, options: 2, shift: -1, root: b"1.9", study: STUDY, site: b"", used: 0 };
         let mut ledger = vec![0x55; 64 * 1024];
         let mut out = vec![0x55; 64 * 1024];
-        deidentify(&request, &mut ledger, &mut out)
+        let report = deidentify(&request, &mut ledger, &mut out);
+        (report, out.windows(6).filter(|part| part == b"SUBJ7 ").count())
     };
-    let report = thread::Builder::new().stack_size(STACK).spawn(run).expect("a thread").join().expect("no fault");
+    let (report, listed) =
+        thread::Builder::new().stack_size(STACK).spawn(run).expect("a thread").join().expect("no fault");
     assert_eq!((report.refusal, report.renamed, report.replaced, report.kept), (0, 9, 18, 8));
+    assert_eq!(listed, 9, "a list value at every depth");
 }

@@ -1,6 +1,6 @@
 //! Demand 3, tried on pairs of batches: outputs are equal byte for byte exactly if kept content is, up to one
-//! one-to-one renaming of the batch's UIDs. What kept content is follows document 01; nothing of it is taken
-//! from how either program walks or writes.
+//! one-to-one renaming of the batch's UIDs. What kept content is made of follows document 01. What is done with
+//! a single element is asked of the second program (`fates`); the walk over a data set is this module's own.
 //!
 //! | module | subject |
 //! |---|---|

@@ -31,9 +31,10 @@ fn lists_are_text() {
     folder.file("in", jane());
     folder.file("study", "# comment\n\n0010,0020 7\n0010,0010 SUBJ7\n");
     let ran = folder.run(&["export", "in", "out", "--root", "1.9", "--study", "study"]);
-    assert!(ran.succeeds().out.contains("replaced by \"SUBJ7\", from a list"), "{}", ran.out);
+    assert!(ran.succeeds().out.contains("replaced by \"SUBJ7\", from the study list"), "{}", ran.out);
     assert!(folder.read("out").starts_with(&element(NAME, "PN", "SUBJ7 ")));
-    folder.run(&["export", "in", "out", "--root", "1.9", "--site=study"]).succeeds();
+    let ran = folder.run(&["export", "in", "out", "--root", "1.9", "--site=study"]);
+    assert!(ran.succeeds().out.contains("replaced by \"SUBJ7\", from the site list"), "{}", ran.out);
     assert!(folder.read("out").starts_with(&element(NAME, "PN", "SUBJ7 ")));
 }
 
@@ -73,16 +74,23 @@ fn the_summary_tells_what_stays_because_of_the_options() {
 fn a_list_that_is_not_used_is_told() {
     let folder = Folder::new();
     folder.file("in", "");
-    folder.file("study", "0008,0060 XX\n0010,0010 A\n");
+    folder.file("study", "0008,0060 XX\n0008,0082 S\n0008,0020 20200101\n0010,0010 A\n");
     folder.file("site", "0010,0010 B\n");
     let ran = folder.run(&["export", "in", "out", "--root", "1", "--study", "study", "--site", "site"]);
+    assert!(ran.succeeds().out.contains("Modality = \"XX\"  NOT USED; what is done: kept"), "{}", ran.out);
     assert!(
-        ran.succeeds().out.contains("Modality = \"XX\"  NOT USED: such an element is kept"),
+        ran.out.contains("= \"B\"  NOT USED: such an element is given \"A\", from the study list"),
         "{}",
         ran.out
     );
-    assert!(ran.out.contains("= \"B\"  NOT USED: such an element is given \"A\""), "{}", ran.out);
     assert!(ran.out.contains("= \"A\"\n"), "{}", ran.out);
+    // An attribute with a sequence's name is one, and one with a date's name has a date.
+    assert!(ran.out.contains("= \"S\"  NOT USED: no list gives a sequence a value"), "{}", ran.out);
+    assert!(ran.out.contains("Study Date = \"20200101\"\n"), "{}", ran.out);
+    let dates = ["--study", "study", "--keep", "modified-dates", "--shift-days", "1"];
+    let ran = folder.run(&[&["export", "in", "out", "--root", "1"], &dates[..]].concat());
+    let says = "Study Date = \"20200101\"  NOT USED; what is done: dates shifted (DA, DT)";
+    assert!(ran.succeeds().out.contains(says), "{}", ran.out);
 }
 
 #[test]
@@ -110,10 +118,24 @@ fn refused_settings_are_told_before_anything_is_read() {
     folder.file("study", "0010,0020 good\n0010,0010 back\\slash\n");
     let ran = export(&["--root", "1", "--study", "study"]);
     assert!(ran.refused(4).err.contains("the study list, study line 2"), "{}", ran.err);
+    assert!(ran.err.ends_with(": its value has a backslash\n"), "{}", ran.err);
     folder.file("site", "0010,0010 A\n0010,0010 B\n");
     let ran = export(&["--root", "1", "--site", "site"]);
     assert!(ran.refused(4).err.contains("the site list, site line 2"), "{}", ran.err);
-    folder.file("ledger", vec![b'1'; 1_025 * 64]);
+    assert!(ran.err.ends_with(": its tag has a line before it\n"), "{}", ran.err);
+    let many: String = (0..257).map(|place| format!("0010,{place:04X} A\n")).collect();
+    let long = format!("0010,0010 {}", "A".repeat(65));
+    for (text, why) in [
+        ("0010,0010 ", "its value is empty"),
+        ("0010,0010 \u{e9}", "not printable ASCII"),
+        (&long, "longer than 64 characters"),
+        (&many, "more than 256 entries"),
+    ] {
+        folder.file("site", text);
+        let ran = export(&["--root", "1", "--site", "site"]);
+        assert!(ran.refused(4).err.contains(why), "{}", ran.err);
+    }
+    folder.file("ledger", (1..=1_025).flat_map(|number| slot(&format!("1.{number}"))).collect::<Vec<u8>>());
     export(&["--root", "1", "--ledger", "ledger"]).refused(3);
     assert_eq!(folder.names(), ["ledger", "site", "study"]);
 }
@@ -124,9 +146,9 @@ fn a_report_for_programs() {
     folder.file("in", [jane(), study("1.2.3")].concat());
     let ran = folder.run(&["export", "in", "out", "--root", "1.9", "--json", "--ledger", "ledger"]);
     let expected = "{\"settings\":{\"root\":\"1.9\",\"keep\":[],\"shift_days\":0,\"study\":null,\"site\":null},\
-                    \"because_of\":[],\"ledger\":{\"file\":\"ledger\",\"before\":0,\"after\":1},\"refusal\":null,\
+                    \"because_of\":[],\"ledger\":{\"file\":\"ledger\",\"before\":0,\"after\":1},\"refusal\":null,\"error\":null,\
                     \"exports\":[{\"input\":\"in\",\"output\":\"out\",\"refusal\":null,\"length\":162,\"kept\":0,\
-                    \"replaced\":1,\"renamed\":1,\"removed\":0}]}\n";
+                    \"replaced\":1,\"renamed\":1,\"removed\":0}],\"not_tried\":[]}\n";
     assert_eq!(ran.succeeds().out, expected);
     folder.file("in", vec![0; 8]);
     let ran = folder.run(&["export", "in", "out", "--root", "1.9", "--json"]);
@@ -158,9 +180,7 @@ fn the_ledger_is_carried_from_call_to_call() {
     folder.file("two", [element(0x0008_0018, "UI", "1.2.77"), study("1.2.3")].concat());
     folder.run(&["export", "one", "out", "--root", "1.9", "--ledger", "ledger"]).succeeds();
     assert!(folder.read("out").windows(5).any(|part| part == b"1.9.1"));
-    let mut slot = b"1.2.3".to_vec();
-    slot.resize(64, 0);
-    assert_eq!(folder.read("ledger"), slot);
+    assert_eq!(folder.read("ledger"), slot("1.2.3"));
     let ran = folder.run(&["export", "two", "out", "--root", "1.9", "--ledger", "ledger"]);
     assert!(
         ran.succeeds().out.contains("ledger, 1 UIDs known\n") && ran.out.contains("ledger, 2 UIDs known now"),
@@ -198,4 +218,48 @@ fn output_and_ledger_both_or_neither() {
     let ran = folder.run(&["export", "in", "out", "--root", "1.9", "--ledger", "none/ledger"]);
     assert_eq!(ran.status, 2);
     assert_eq!(folder.names(), ["in"]);
+}
+
+#[test]
+fn times_are_told_to_be_kept() {
+    let folder = Folder::new();
+    folder.file("in", "");
+    let keep = ["--keep", "modified-dates", "--shift-days", "0"];
+    let ran = folder.run(&[&["export", "in", "out", "--root", "1"], &keep[..]].concat());
+    let says = "because of modified-dates, dates shifted, times kept as they came: ";
+    assert!(ran.succeeds().out.contains(says) && !ran.out.contains("dates shifted: "), "{}", ran.out);
+    assert!(ran.out.contains("dates       shifted by 0 days; times are kept as they came\n"), "{}", ran.out);
+}
+
+#[test]
+fn a_ledger_that_is_not_there_is_not_said_to_be() {
+    let folder = Folder::new();
+    folder.file("in", "damaged");
+    let ran = folder.run(&["export", "in", "out", "--root", "1", "--ledger", "ledger"]);
+    assert_eq!(ran.status, 1);
+    assert!(ran.out.ends_with("ledger      ledger, not written\n"), "{}", ran.out);
+    assert_eq!(folder.names(), ["in"]);
+}
+
+#[test]
+fn a_list_may_begin_with_a_mark() {
+    let folder = Folder::new();
+    folder.file("in", jane());
+    folder.file("study", "\u{FEFF}0010,0010 SUBJ7\n");
+    folder.run(&["export", "in", "out", "--root", "1.9", "--study", "study"]).succeeds();
+    assert!(folder.read("out").starts_with(&element(NAME, "PN", "SUBJ7 ")));
+}
+
+#[test]
+fn a_whole_file_gets_a_hint() {
+    let folder = Folder::new();
+    folder.file("in", [vec![0; 128], b"DICM".to_vec(), jane()].concat());
+    let hint = "in: this looks like a file with a header; only bare data sets are taken";
+    for words in [&["export", "in", "out", "--root", "1"][..], &["dump", "in"], &["view", "in", "0010,0010"]]
+    {
+        let ran = folder.run(words);
+        assert!(ran.refused(7).err.contains(hint), "{}", ran.err);
+    }
+    folder.file("in", vec![0; 200]);
+    assert!(!folder.run(&["dump", "in"]).refused(7).err.contains("header; only"));
 }

@@ -46,6 +46,13 @@ fn a_missing_one_makes_an_end_of_it_and_what_was_done_is_told() {
     assert_eq!(ran.status, 2);
     assert!(ran.err.contains("cannot read b"), "{}", ran.err);
     assert!(ran.out.contains("\"output\":\"out/a\"") && !ran.out.contains("out/c"), "{}", ran.out);
+    let error = "\"error\":{\"input\":\"b\",\"what\":\"cannot read b: ";
+    assert!(ran.out.contains(error) && ran.out.contains("\"not_tried\":[\"c\"]"), "{}", ran.out);
+    let ran = folder.run(&["export", "a", "b", "c", "out", "--root", "1.9"]);
+    assert!(ran.out.contains("1 exported, 0 refused, 2 not exported"), "{}", ran.out);
+    let ran = folder.run(&["export", "a", "out", "--root", "1.9", "--json", "--study", "none"]);
+    assert_eq!(ran.status, 2);
+    assert!(ran.out.contains("\"what\":\"cannot read none: "), "{}", ran.out);
     assert!(!folder.path("out/c").exists());
 }
 

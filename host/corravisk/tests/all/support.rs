@@ -111,6 +111,13 @@ pub fn jane() -> Vec<u8> {
     element(NAME, "PN", "Doe^Jane")
 }
 
+/// A slot of a ledger.
+pub fn slot(uid: &str) -> Vec<u8> {
+    let mut slot = uid.as_bytes().to_vec();
+    slot.resize(64, 0);
+    slot
+}
+
 /// A study's UID, of an odd number of characters.
 pub fn study(uid: &str) -> Vec<u8> {
     element(STUDY, "UI", format!("{uid}\0"))

@@ -22,6 +22,9 @@ fn wrong_calls_are_told() {
         .wrong("no such option here: --kepp");
     folder.run(&["export", "in", "out", "--root", "1", "--keep", "names"]).wrong("no such option: \"names\"");
     folder.run(&["export", "in", "out", "--root", "1", "--shift-days", "x"]).wrong("not a whole number");
+    for command in [&["export", "in", "out", "--root", "1"][..], &["explain"]] {
+        folder.run(&[command, &["--keep", "modified-dates"]].concat()).wrong("needs --shift-days");
+    }
     folder.run(&["export", "in", "in2", "out", "--root", "1"]).wrong("several data sets go to a folder");
     folder.run(&["view", "in"]).wrong("view takes");
     folder.run(&["view", "in", "name"]).wrong("not a tag: name");
@@ -45,6 +48,12 @@ fn files_that_are_not_what_they_must_be_are_told() {
     export(&["--study", "list"]).wrong("a list is text");
     folder.file("ledger", "1.2.3");
     export(&["--ledger", "ledger"]).wrong("not a ledger");
+    // Any other file of a length that a ledger may have stays as it is.
+    let other = [slot("1.2.3"), vec![b'x'; 64]].concat();
+    folder.file("ledger", &other);
+    export(&["--ledger", "ledger"]).wrong("not a ledger: entry 2 does not begin with a UID");
+    folder.file("ledger", [slot("1.2.3"), slot("1.2.3")].concat());
+    export(&["--ledger", "ledger"]).wrong("not a ledger: entry 2 has a UID");
     assert!(!folder.path("out").exists());
 }
 
@@ -81,6 +90,10 @@ fn help_and_version() {
         format!("corravisk {}\n", env!("CARGO_PKG_VERSION"))
     );
     folder.run(&["help", "nothing"]).wrong("no such command");
+    for option in ["  --root ", "  --keep ", "  --study ", "  --ledger ", "  --json "] {
+        let out = folder.run(&["help", "export"]).out;
+        assert!(out.lines().any(|line| line.starts_with(option)), "{option}: {out}");
+    }
 }
 
 #[test]
@@ -90,4 +103,95 @@ fn a_reader_that_goes_away_is_no_error() {
     child.stdout.take().unwrap().read_exact(&mut few).unwrap();
     let output = child.wait_with_output().unwrap();
     assert_eq!((output.status.code(), output.stderr), (Some(0), vec![]));
+}
+
+/// An export whose standard output, or both outputs, go to a reader that is gone already.
+fn unheard(folder: &Folder, words: &[&str], both: bool) -> Option<i32> {
+    let (reader, writer) = std::io::pipe().unwrap();
+    drop(reader);
+    let mut command = command();
+    command.current_dir(folder.path("")).args(words).stdout(writer.try_clone().unwrap());
+    command.stderr(if both { Stdio::from(writer) } else { Stdio::piped() });
+    let output = command.spawn().unwrap().wait_with_output().unwrap();
+    let refused = String::from_utf8_lossy(&output.stderr).contains("refused, No. ");
+    assert_eq!(refused, !both && output.status.code() == Some(1), "{output:?}");
+    output.status.code()
+}
+
+#[test]
+fn an_export_is_done_whether_it_is_heard_or_not() {
+    for both in [false, true] {
+        for json in [&[][..], &["--json"]] {
+            let folder = Folder::new();
+            folder.file("a", study("1.2.3"));
+            folder.file("b", "damaged");
+            folder.file("c", study("1.2.4"));
+            fs::create_dir(folder.path("out")).unwrap();
+            let export = ["export", "--root", "1.9", "--ledger", "ledger"];
+            let done = unheard(&folder, &[&export[..], &["a", "out"], json].concat(), both);
+            assert_eq!((done, folder.path("out/a").exists()), (Some(0), true));
+            let done = unheard(&folder, &[&export[..], &["a", "b", "c", "out"], json].concat(), both);
+            assert_eq!((done, folder.path("out/c").exists()), (Some(1), true));
+            assert_eq!(folder.read("ledger").len(), 128);
+            let done = unheard(&folder, &[&export[..], &["none", "out"], json].concat(), both);
+            assert_eq!(done, Some(2));
+        }
+    }
+}
+
+#[cfg(target_os = "linux")]
+#[test]
+fn a_full_disk_behind_the_output_is_told_and_decides_nothing() {
+    let folder = Folder::new();
+    folder.file("in", jane());
+    let full = fs::OpenOptions::new().write(true).open("/dev/full").unwrap();
+    let mut command = command();
+    command.current_dir(folder.path("")).args(["export", "in", "out", "--root", "1.9"]).stdout(full);
+    let ran = Ran::of(command.stderr(Stdio::piped()).spawn().unwrap().wait_with_output().unwrap());
+    assert_eq!(ran.status, 0);
+    assert!(ran.err.contains("cannot print"), "{ran:?}");
+    assert_eq!(folder.read("out").len(), 148);
+}
+
+#[cfg(unix)]
+#[test]
+fn a_ledger_behind_a_link_stays_one_ledger() {
+    use std::os::unix::fs::symlink;
+    let folder = Folder::new();
+    folder.file("one", study("1.2.3"));
+    folder.file("two", study("1.2.4"));
+    fs::create_dir(folder.path("far")).unwrap();
+    folder.file("far/ledger", "");
+    symlink("far/ledger", folder.path("link")).unwrap();
+    folder.run(&["export", "one", "out1", "--root", "1.9", "--ledger", "link"]).succeeds();
+    folder.run(&["export", "two", "out2", "--root", "1.9", "--ledger", "far/ledger"]).succeeds();
+    assert!(fs::symlink_metadata(folder.path("link")).unwrap().is_symlink());
+    assert_eq!(folder.read("far/ledger"), [slot("1.2.3"), slot("1.2.4")].concat());
+    // A link to nothing is no ledger that could be begun.
+    symlink("far/none", folder.path("nowhere")).unwrap();
+    folder.run(&["export", "one", "out3", "--root", "1.9", "--ledger", "nowhere"]).wrong("it is a link");
+    assert_eq!(folder.names(), ["far", "link", "nowhere", "one", "out1", "out2", "two"]);
+}
+
+#[cfg(unix)]
+#[test]
+fn what_is_no_regular_file_is_not_written_over() {
+    use std::os::unix::fs::symlink;
+    use std::os::unix::net::UnixListener;
+    let folder = Folder::new();
+    folder.file("in", study("1.2.3"));
+    folder.file("file", "as it was");
+    symlink("file", folder.path("link")).unwrap();
+    let _socket = UnixListener::bind(folder.path("socket")).unwrap();
+    assert!(std::process::Command::new("mkfifo").arg(folder.path("fifo")).status().unwrap().success());
+    let export = |words: &[&str]| folder.run(&[&["export", "in", "--root", "1"], words].concat());
+    export(&["link"]).wrong("cannot write link: it is a link");
+    for special in ["fifo", "socket"] {
+        export(&[special]).wrong("it is no regular file");
+        export(&["out", "--ledger", special]).wrong("it is no regular file");
+    }
+    export(&["out", "--ledger", "."]).wrong("it is a folder");
+    assert_eq!(folder.read("file"), b"as it was");
+    assert_eq!(folder.names(), ["fifo", "file", "in", "link", "socket"]);
+    assert!(!fs::metadata(folder.path("fifo")).unwrap().is_file());
 }
