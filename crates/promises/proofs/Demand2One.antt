@@ -2,6 +2,7 @@
 -- So no other station meets it. No contract cites this file. Assumes nothing.
 --     kept-bare, counts-bare     kept content and counts hang on no label of the tree
 --     gains-one, markers-one     an element is gained in one place, and so are the markers
+--     came-is, slots-are, length-is    whatever stands in the relations has the definitions' tree, slots and length, be the run accepted or not
 --     exports-one                THE THEOREM
 --     two-exports-one            so two outcomes that the statement allows are one
 use mathlib.Core.Path.{_≡_, refl, sym, ap, ap₂, _∙_}
@@ -119,7 +120,7 @@ markers-one number ds es g =
 -- ---- the whole statement
 
 module _ (i : Input) (r : Report) (out l : List ℕ) (x : Exports i r out l) where
-  came-is : x .came ≡ bare (treeOf i)
+  pub came-is : x .came ≡ bare (treeOf i)
   unfolding treeOf readAs
   came-is = step (read deepest (i .lent)) (x .reads)
     where
@@ -137,7 +138,7 @@ module _ (i : Input) (r : Report) (out l : List ℕ) (x : Exports i r out l) whe
   uids-are : x .uids ≡ namesIn (content i)
   uids-are = one-way .names ∙ ap (λ (c : Content Uid). namesIn c) content-is
 
-  slots-are : x .ledger .slots ≡ slotsAfter i
+  pub slots-are : x .ledger .slots ≡ slotsAfter i
   unfolding slotsAfter
   slots-are = learnt-learns (x .ledger .learnt) ∙ ap (λ (us : List Uid). learns sameName (inUse i) (map slotOf us)) uids-are
 
@@ -157,7 +158,7 @@ module _ (i : Input) (r : Report) (out l : List ℕ) (x : Exports i r out l) whe
       ∙ ap (λ (c : Content ℕ). writtenOf c (i .settings) top) numbers-are))
       ∙ sym (bytes-numbered i)
 
-  length-is : r .length ≡ length (bytesFor i)
+  pub length-is : r .length ≡ length (bytesFor i)
   length-is = x .length-is ∙ ap length goes-is
 
   -- THE THEOREM

@@ -225,7 +225,7 @@ module _ (i : Input) (ok : answer i ≡ done) where
         slots = slotsAfter i;
         learnt = learns-learnt (inUse i) us;
         count = rw ok;
-        fits = accepted i ok .free;
+        fits = omega (arith, accepted i ok .free);
         bytes = after-bytes;
         stays = after-stays;
         numbered = λ u m. number-numbered (slotsAfter i) (slotOf u) (in-after u m);

@@ -7,6 +7,7 @@ pub mod MarkersProof
 pub mod LedgerProof
 pub mod Demand2Proof
 pub mod Demand2One
+pub mod Demand2Accepted
 pub mod WrongStations
 pub mod Demand3Proof
 pub mod Witness
@@ -17,5 +18,6 @@ pub mod OneOutcomeRules
 pub mod OneOutcomeValues
 pub mod RunningProof
 pub mod RunningBatches
+pub mod RunningCProof
 pub mod OneOutcomeWalks
 pub mod OneOutcomeEntries

@@ -11,10 +11,10 @@ use denote.Ref.{now}
 use Rattle.station.specs.Entry.{report}
 use Rattle.station.specs.declared.Outcome.{Outcome as Answer}
 use Rattle.station.specs.declared.Outcome.the-variants.{Refused, Done}
-use Rattle.abi.proofs.corravisk_deidentify.Reads as corravisk-deidentify
 use Rattle.abi.proofs.corravisk_view.Reads as corravisk-view
 use Rattle.abi.proofs.corravisk_action.Reads as corravisk-action
 use Rattle.promises.specs.Running.{Lent, input, Runs, outcome}
+use Rattle.promises.specs.RunningC.{Calls}
 use Rattle.promises.proofs.RunningProof.{said, outcome-is, station-one}
 use Rattle.promises.proofs.OneOutcome.{Slice}
 use Rattle.promises.proofs.OneOutcomeWalks.{progress-one}
@@ -38,13 +38,6 @@ deidentify-one x y r r′ l l′ o o′ i a b = (report-one (x .used) r r′ sam
     same = cc (outcome-is (input x) (x .used) r (said x r l o a .0), outcome-is (input y) (y .used) r′ (said y r′ l′ o′ b .0), i)
 
 -- ---- abi
-
--- a call is lent what the station is, and the numbers n, which are m afterwards
-abbrev pub Calls : Lfts 6 → Lent → Slice → Slice → Slice → Slice → Type 0
-Calls κs x n l o m =
-    corravisk-deidentify.Learnt κs
-    (x .lent, (x .options, (x .shift, (x .root, (x .study, (x .site, (x .ledger, (x .used, (x .out, (n, tt))))))))))
-    tt (x .lent, (x .options, (x .shift, (x .root, (x .study, (x .site, (l, (x .used, (o, (m, tt))))))))))
 
 pub corravisk-deidentify-one : (κs κs′ : Lfts 6) (x y : Lent) (n n′ l l′ o o′ m m′ : Slice) → input x ≡ input y → Calls κs x n l o m
     → Calls κs′ y n′ l′ o′ m′ → (now m ≡ now m′) × (now o ≡ now o′) × (now l ≡ now l′)

@@ -2,8 +2,10 @@
 -- No contract cites this file. Assumes nothing.
 --     said                 the answer's report, every byte of the output and every byte of the ledger are `answer`'s
 --     bytes-some           something is always written, so that no refusal is told like a finished data set
+--     refused-number       a refusal's number is not 0
 --     outcome-is           the answer is `answer`'s
 --     running-demand1, running-demand2    DEMANDS 1 AND 2
+--     running-demand2-other    the other half of demand 2
 --     station-one          ONE OUTCOME: two calls that were lent the same leave the same
 use mathlib.Core.Path.{_≡_, refl, sym, ap, ap₂, _∙_}
 use mathlib.Core.Bool.{Bool, true, false}
@@ -30,9 +32,10 @@ use Rattle.answer.specs.Answer.{Outcome, refused, done, Report, answer, reportF
 use Rattle.station.specs.Entry.{report}
 use Rattle.station.specs.declared.Outcome.{Outcome as Answer}
 use Rattle.station.specs.declared.Outcome.the-variants.{Refused, Done}
-use Rattle.promises.specs.Running.{Lent, input, Runs, outcome, RunningDemand1, RunningDemand2}
+use Rattle.promises.specs.Running.{Lent, input, Runs, outcome, RunningDemand1, RunningDemand2, RunningDemand2Other}
 use Rattle.promises.proofs.Demand1Proof.{demand1}
 use Rattle.promises.proofs.Demand2Proof.{demand2}
+use Rattle.promises.proofs.Demand2Accepted.{exports-accepted}
 
 pub said : (x : Lent) (r : Answer) (l o : RefT (List ℕ)) → Runs x r l o
     → (report (x .used) r ≡ reportOf (input x)) × (now o ≡ outputOf (input x)) × (now l ≡ ledgerOf (input x))
@@ -73,7 +76,7 @@ bytes-some i = insert-some 0x0012_0062 CS _ _
 
 -- ---- the outcome
 
-refused-number : (i : Input) (n o : ℕ) → answer i ≡ refused n o → 1 ≤ n
+pub refused-number : (i : Input) (n o : ℕ) → answer i ≡ refused n o → 1 ≤ n
 refused-number i n o e = step (demand1 i .ends)
   where
     step : (answer i ≡ done) ⊎ ((m : ℕ) × (p : ℕ) × (1 ≤ m) × (m ≤ 14) × (answer i ≡ refused m p)) → 1 ≤ n
@@ -110,6 +113,10 @@ pub running-demand2 : RunningDemand2
 running-demand2 x r l o ran bytes e =
     let told = said x r l o ran in
     rw (told .0, told .1, told .2) (demand2 (input x) bytes (sym (outcome-is (input x) (x .used) r (told .0)) ∙ e))
+
+pub running-demand2-other : RunningDemand2Other
+running-demand2-other x r l o ran clear q out k e =
+    outcome-is (input x) (x .used) r (said x r l o ran .0) ∙ exports-accepted (input x) q out k clear e
 
 -- ---- one outcome
 

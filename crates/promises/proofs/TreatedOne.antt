@@ -1,5 +1,6 @@
 -- The relation of `specs/Treated.antt` allows one outcome: what is left of a data set, the counts and the UIDs are those of the definitions.
 -- So nothing but the right export stands in it. No contract cites this file. Assumes nothing.
+--     fate-kept, fate-walked, fate-dummied, fate-renamed, fate-shifted    the fate that each line gives
 --     evened-one          a text is evened in one way
 --     treated-one         THE LAW, of the elements of a level
 use mathlib.Core.Path.{_≡_, refl, sym, ap, ap₂, subst, _∙_}
@@ -36,12 +37,12 @@ use Rattle.promises.proofs.TreatedCases.{treated-nil, treated-elem, ite
 
 -- ---- the fate that each line gives
 
-fate-kept : (a : Action) (vr : ℕ) → Keeps a vr → byAction a vr ≡ kept
+pub fate-kept : (a : Action) (vr : ℕ) → Keeps a vr → byAction a vr ≡ kept
 unfolding among
 fate-kept a vr (keep n) = rw (ne-eqb vr SQ n)
 fate-kept a vr (time e) = rw e
 
-fate-walked : (a : Action) (vr : ℕ) → WalkedInto a → vr ≡ SQ → byAction a vr ≡ walked
+pub fate-walked : (a : Action) (vr : ℕ) → WalkedInto a → vr ≡ SQ → byAction a vr ≡ walked
 fate-walked a vr keep e = rw e
 fate-walked a vr rename e = rw e
 fate-walked a vr clean e = rw e
@@ -53,14 +54,14 @@ fate-asD a vr dummy = refl
 fate-asD a vr (clean n) = rw (ne-eqb vr SQ n)
 fate-asD a vr (cleanDates n p q m) = rw (ne-eqb vr SQ n, ne-eqb vr DA p, ne-eqb vr DT q, ne-eqb vr TM m)
 
-fate-dummied : (a : Action) (vr : ℕ) → AsD a vr → vr ≢ UI → byAction a vr ≡ dummied
+pub fate-dummied : (a : Action) (vr : ℕ) → AsD a vr → vr ≢ UI → byAction a vr ≡ dummied
 fate-dummied a vr d n = fate-asD a vr d ∙ rw (ne-eqb vr UI n)
 
-fate-renamed : (a : Action) (vr : ℕ) → Renames a vr → vr ≡ UI → byAction a vr ≡ renamed
+pub fate-renamed : (a : Action) (vr : ℕ) → Renames a vr → vr ≡ UI → byAction a vr ≡ renamed
 fate-renamed a vr rename e = rw e
 fate-renamed a vr (asD d) e = fate-asD a vr d ∙ rw e
 
-fate-shifted : (a : Action) (vr : ℕ) → a ≡ CleanDates → (vr ≡ DA) ⊎ (vr ≡ DT) → byAction a vr ≡ shifted
+pub fate-shifted : (a : Action) (vr : ℕ) → a ≡ CleanDates → (vr ≡ DA) ⊎ (vr ≡ DT) → byAction a vr ≡ shifted
 unfolding among
 fate-shifted a vr e (inl q) = rw (e, q)
 fate-shifted a vr e (inr q) = rw (e, q)
@@ -86,7 +87,7 @@ unlisted-one s tag vr t (inr e) = step (servedByLists vr)
     step false = refl
 
 -- no list serves a sequence or a UI
-served-not : (vr : ℕ) → servedByLists vr ≡ true → (vr ≢ SQ) × (vr ≢ UI)
+pub served-not : (vr : ℕ) → servedByLists vr ≡ true → (vr ≢ SQ) × (vr ≢ UI)
 unfolding servedByLists among
 served-not vr h = (λ e. false≢true (rw e at h), λ e. false≢true (rw e at h))
 
@@ -154,7 +155,7 @@ module _ (s : Settings) (number : List ℕ → ℕ) (level : Level) (tag vr : �
       let x : us ≡ uidsIn v = sym (ap found e) in
       record {
         φ = renamed;
-        is = fate-renamed action vr a q;
+        is = fate-renamed action vr a (omega arith);
         appears = tt;
         wrote = ap (λ (ws : List (List ℕ)). value (uidsText (s .root) (map number ws))) x;
         counted = refl;

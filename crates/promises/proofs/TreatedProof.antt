@@ -166,7 +166,7 @@ module _ (s : Settings) (number : List ℕ → ℕ) (level : Level) (tag vr : �
   value-becomes v walked e p fits ok = absurd (room-other vr (length v) fits (fate-walked s level tag vr e))
   value-becomes v emptied e p fits ok = rw e (emptied-becomes (fate-because s level tag vr emptied e) (value v))
   value-becomes v dummied e p fits ok = let b = fate-because s level tag vr dummied e in rw e (dummied-becomes (b .0) (b .1) (value v))
-  value-becomes v renamed e p fits ok = let b = fate-because s level tag vr renamed e in renames (b .0) (b .1) (uids-found s vr v ok)
+  value-becomes v renamed e p fits ok = let b = fate-because s level tag vr renamed e in renames (b .0) (omega (arith, b .1)) (uids-found s vr v ok)
   value-becomes v shifted e p fits ok = let b = fate-because s level tag vr shifted e in rw e (shifted-becomes v (b .0) (b .1) ok)
   value-becomes v wrong e p fits ok = absurd (omega arith)
 

@@ -2,12 +2,16 @@
 -- is replaced, what is to be kept survives byte for byte, UIDs are renamed consistently, and the written length, the four counts and the
 -- ledger are the ones defined there. The data set that came in and the one that goes out stand in the relations of `Treated.antt`,
 -- `Markers.antt` and `LedgerAfter.antt`, which are to be held against document 01. Proof: `proofs/Demand2Proof.antt`. That the
--- relations allow one outcome only: `proofs/Demand2One.antt`. Assumes nothing.
+-- relations allow one outcome only: `proofs/Demand2One.antt`. That they leave nothing to refuse: `proofs/Demand2Accepted.antt`. Assumes
+-- nothing.
 --     NoneRemoved ds options top     no element whose action is X on its level stands in ds, at any depth
 --     Exports i r out l              a run that was handed i, reports r, and leaves the output out and the ledger l, has exported rightly
 --     Demand2                        the demand
+--     EarlyClear i                   none of the conditions 1 to 5 holds, which look at the settings, the ledger's count and the length alone
+--     Demand2Other                   the other half: where something stands in the relations to what a run was handed, the run is accepted
+--     Demand2Exactly                 both: just what an accepted run leaves stands in them
 use mathlib.Core.Path.{_≡_}
-use mathlib.Core.Logic.{_≢_}
+use mathlib.Core.Logic.{_≢_, _↔_}
 use mathlib.Core.Bool.{Bool, true, false}
 use mathlib.Core.List.{List, _++_}
 use Prim.Native.Nat.{ℕ, suc, _-_, _≤_}
@@ -21,7 +25,9 @@ use Rattle.layout.specs.Made.{Made}
 use Rattle.table.specs.Action.{actionOf}
 use Rattle.table.specs.declared.Action.the-variants.{Remove}
 use Rattle.answer.specs.Input.{Input}
+use Rattle.answer.specs.Conditions.{conditions}
 use Rattle.answer.specs.Answer.{Report, done, answer, reportOf, outputOf, ledgerOf}
+use Rattle.promises.specs.Demand1.{NoneHolds}
 use Rattle.promises.specs.Treated.{Treated}
 use Rattle.promises.specs.Markers.{GainsMarkers}
 use Rattle.promises.specs.LedgerAfter.{LedgerAfter}
@@ -68,3 +74,15 @@ pub record Exports (i : Input) (r : Report) (out l : List ℕ) : Type 0 where
 
 abbrev pub Demand2 : Type 0
 Demand2 = (i : Input) → AllBytes (i .lent) → answer i ≡ done → Exports i (reportOf i) (outputOf i) (ledgerOf i)
+
+abbrev pub EarlyClear : Input → Type 0
+EarlyClear i = NoneHolds i (take 5 conditions)
+
+-- so a definition that refuses by 6 to 14 what stands in the relations is shut out
+abbrev pub Demand2Other : Type 0
+Demand2Other = (i : Input) (r : Report) (out l : List ℕ) → EarlyClear i → Exports i r out l → answer i ≡ done
+
+abbrev pub Demand2Exactly : Type 0
+Demand2Exactly =
+    (i : Input) (r : Report) (out l : List ℕ) → AllBytes (i .lent) → EarlyClear i
+    → Exports i r out l ↔ ((answer i ≡ done) × (r ≡ reportOf i) × (out ≡ outputOf i) × (l ≡ ledgerOf i))

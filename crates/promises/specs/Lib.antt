@@ -5,3 +5,4 @@ pub mod LedgerAfter
 pub mod Demand2
 pub mod Demand3
 pub mod Running
+pub mod RunningC

@@ -7,6 +7,7 @@
 --     outcome r         the refusal that the answer r says, or that it is done
 --     RunningDemand1    whatever a call is lent: it answers rightly
 --     RunningDemand2    where it is done, it has exported rightly
+--     RunningDemand2Other    where something could be exported rightly, and none of the conditions 1 to 5 holds, it is done
 --     RanBy s l n xs outs    the data sets xs were run in order by calls of the station under the settings s, from the ledger l with n entries in
 --                       use; each was accepted and was handed the ledger and the count that the one before it left; outs is what they left
 --     RunningDemand3    the outputs of two batches are equal exactly when their kept contents are, up to one renaming
@@ -22,13 +23,13 @@ use Rattle.basis.specs.Bytes.{AllBytes}
 use Rattle.kept.specs.Settings.{Settings}
 use Rattle.kept.specs.Renaming.{OneRenaming}
 use Rattle.answer.specs.Input.{Input}
-use Rattle.answer.specs.Answer.{Outcome, refused, done}
+use Rattle.answer.specs.Answer.{Outcome, refused, done, Report}
 use Rattle.station.specs.Entry.{inputOf, report}
 use Rattle.station.specs.declared.Outcome.{Outcome as Answer}
 use Rattle.station.specs.declared.Outcome.the-variants.{Refused, Done}
 use Rattle.station.proofs.deidentify.Reads as station
 use Rattle.promises.specs.Demand1.{Answers}
-use Rattle.promises.specs.Demand2.{Exports}
+use Rattle.promises.specs.Demand2.{Exports, EarlyClear}
 use Rattle.promises.specs.Demand3.{contentOf}
 
 -- the data set, the settings, the ledger with its count in use, and the output buffer
@@ -64,6 +65,11 @@ abbrev pub RunningDemand2 : Type 0
 RunningDemand2 =
     (x : Lent) (r : Answer) (l o : RefT (List ℕ)) → Runs x r l o → AllBytes (now (x .lent)) → outcome r ≡ done
     → Exports (input x) (report (x .used) r) (now o) (now l)
+
+abbrev pub RunningDemand2Other : Type 0
+RunningDemand2Other =
+    (x : Lent) (r : Answer) (l o : RefT (List ℕ)) → Runs x r l o → EarlyClear (input x) → (q : Report) (out k : List ℕ) → Exports (input x) q out k
+    → outcome r ≡ done
 
 -- a call that was lent the data set d, under the settings s, with the ledger l and n entries in use
 pub record Call (s : Settings) (l : List ℕ) (n : ℕ) (d : List ℕ) : Type 0 where
