@@ -38,15 +38,15 @@ use Rattle.kept.proofs.WrittenLaws.{NumberedBody, Numbered, NumberedWal
 
 -- ---- what no fault says
 
-first-none : (x y : Option Fault) → first x y ≡ none → (x ≡ none) × (y ≡ none)
+pub first-none : (x y : Option Fault) → first x y ≡ none → (x ≡ none) × (y ≡ none)
 first-none none y e = (refl, e)
 first-none (some x) y e = absurd (Option·none-ne-some x (sym e))
 
-at-none : (n offset : ℕ) → faultAt n offset ≡ none → n ≡ 0
+pub at-none : (n offset : ℕ) → faultAt n offset ≡ none → n ≡ 0
 at-none zero offset e = refl
 at-none (suc n) offset e = absurd (Option·none-ne-some _ (sym e))
 
-unpicked : (b : Bool) (n : ℕ) → 0 < n → pick b n 0 ≡ 0 → b ≡ false
+pub unpicked : (b : Bool) (n : ℕ) → 0 < n → pick b n 0 ≡ 0 → b ≡ false
 unpicked true n h e = absurd (omega arith)
 unpicked false n h e = refl
 

@@ -31,7 +31,7 @@ use Rattle.lists.specs.Lists.{mostValue}
 use Rattle.kept.specs.Marks.{text, codeItem, optionItems, codes, insert, marked}
 use Rattle.kept.proofs.FillersLaws.{value-made}
 
-fork-case : {A : Type 0} (P : A → Type 0) (b : Bool) (x y : Unit {0} → A) → (b ≡ true → P (x tt)) → (b ≡ false → P (y tt)) → P (fork b x y)
+pub fork-case : {A : Type 0} (P : A → Type 0) (b : Bool) (x y : Unit {0} → A) → (b ≡ true → P (x tt)) → (b ≡ false → P (y tt)) → P (fork b x y)
 fork-case P true x y f g = f refl
 fork-case P false x y f g = g refl
 

@@ -8,9 +8,9 @@ pub mod LedgerProof
 pub mod Demand2Proof
 pub mod Demand2One
 pub mod Demand2Accepted
-pub mod WrongStations
 pub mod Demand3Proof
 pub mod Witness
+pub mod WrongStations
 pub mod OneOutcome
 pub mod OneOutcomeLayout
 pub mod OneOutcomeLeaves

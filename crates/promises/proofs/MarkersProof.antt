@@ -26,7 +26,7 @@ use Rattle.kept.specs.Settings.{Settings}
 use Rattle.kept.specs.Counts.{Counts}
 use Rattle.kept.specs.Fillers.{spaced}
 use Rattle.kept.specs.Marks.{text, codeItem as codeItemOf, optionItems, codes, insert, marked}
-use Rattle.kept.proofs.MarksLaws.{Absent}
+use Rattle.kept.proofs.MarksLaws.{fork-case, Absent}
 use Rattle.promises.specs.Treated.{Keeps, keep, time, WalkedInto, rename, clean, cleanDates, AsD, dummy, Renames, asD, Becomes, same, emptied-listed, emptied, emptied-sequence, dummied-listed, dummied, dummied-sequence, renamed, date, dateTime, Treated, TreatedItems}
 use Rattle.promises.specs.Markers.{Gains, last as atLast, before, after, CodeItem, codeItem, OptionItems, none, chosen, other, GainsMarkers}
 use Rattle.promises.specs.Demand2.{NoneRemovedField, NoneRemoved, NoneRemovedItems}
@@ -115,10 +115,6 @@ marks-absent : (options mark : ℕ) → among mark marks ≡ true → (ds : Data
 unfolding NoneRemoved Absent
 marks-absent options mark is nil n = tt
 marks-absent options mark is (elem l t v f ds) n = (λ e. n .0 (marks-removed options t (rw e at is)), marks-absent options mark is ds (n .2))
-
-fork-case : {A : Type 0} (P : A → Type 0) (b : Bool) (x y : Unit {0} → A) → (b ≡ true → P (x tt)) → (b ≡ false → P (y tt)) → P (fork b x y)
-fork-case P true x y f g = f refl
-fork-case P false x y f g = g refl
 
 module _ (tag vr : ℕ) (f : Field (Unit {0})) where
   insert-gains : (ds : Data) → Absent tag ds → Gains tag vr f ds (insert tag vr f ds)

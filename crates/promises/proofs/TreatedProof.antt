@@ -36,7 +36,7 @@ use Rattle.kept.specs.Counts.{Counts, counts, nothing, plus, one, inside, count
 use Rattle.kept.specs.Faults.{Fault, valueFault, at as faultAt, first, sequenceFault, fieldFault, firstFault, itemsFault}
 use Rattle.kept.proofs.FatesLaws.{fate-walked, fate-renamed, fate-shifted, fate-kept, fate-wrong}
 use Rattle.kept.proofs.FillersLaws.{room-other}
-use Rattle.kept.proofs.KeptLaws.{Stays}
+use Rattle.kept.proofs.KeptLaws.{first-none, at-none, unpicked, Stays}
 use Rattle.promises.specs.Treated.{Keeps, keep, time, WalkedInto, rename, clean, cleanDates, AsD, dummy, Renames, asD, Listed, Unlisted, Evened, even, odd, Becomes, same, emptied-listed, emptied as empties, emptied-sequence, dummied-listed, dummied as dummies, dummied-sequence, renamed as renames, date, dateTime, Treated, end, gone, walked as walks, stays, TreatedItems, last, each}
 
 -- ---- fates
@@ -92,18 +92,6 @@ pub plus-nothing : (c : Counts) → c ≡ plus nothing c
 plus-nothing c = counts-eq _ _ _ _ _ _ _ _ (omega arith) (omega arith) (omega arith) (omega arith)
 
 -- ---- what no fault says
-
-first-none : (x y : Option Fault) → first x y ≡ none → (x ≡ none) × (y ≡ none)
-first-none none y e = (refl, e)
-first-none (some x) y e = absurd (Option·none-ne-some x (sym e))
-
-at-none : (n offset : ℕ) → faultAt n offset ≡ none → n ≡ 0
-at-none zero offset e = refl
-at-none (suc n) offset e = absurd (Option·none-ne-some _ (sym e))
-
-unpicked : (b : Bool) (n : ℕ) → 0 < n → pick b n 0 ≡ 0 → b ≡ false
-unpicked true n h e = absurd (omega arith)
-unpicked false n h e = refl
 
 uids-found : (s : Settings) (vr : ℕ) (v : List ℕ) → valueFault s renamed vr v ≡ 0 → uidsOf v ≡ some (uidsIn v)
 uids-found s vr v e =

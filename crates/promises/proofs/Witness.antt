@@ -59,7 +59,7 @@ use Rattle.answer.specs.Input.{readAs, treeOf, content, slotsAfter, bytesFor}
 use Rattle.promises.specs.Demand3.{contentOf, started, exported, Ran, none, next}
 
 -- each number of a list that is tested is a byte
-bytes-are : (s : List ℕ) → every (λ b. ltb b 256) s ≡ true → AllBytes s
+pub bytes-are : (s : List ℕ) → every (λ b. ltb b 256) s ≡ true → AllBytes s
 unfolding every
 bytes-are [] e i = omega arith
 bytes-are (b ∷ s) e zero = ltb-true b 256 (and-eq-true-iff (ltb b 256) (every (λ b. ltb b 256) s) .0 e .0)

@@ -69,13 +69,7 @@ use Rattle.promises.specs.Demand2.{Exports}
 use Rattle.promises.proofs.Demand1Proof.{answers-one}
 use Rattle.promises.proofs.Demand2Proof.{demand2}
 use Rattle.promises.proofs.Demand2One.{exports-one}
-
--- each number of a list that is tested is a byte
-bytes-are : (s : List ℕ) → every (λ b. ltb b 256) s ≡ true → AllBytes s
-unfolding every
-bytes-are [] e i = omega arith
-bytes-are (b ∷ s) e zero = ltb-true b 256 (and-eq-true-iff (ltb b 256) (every (λ b. ltb b 256) s) .0 e .0)
-bytes-are (b ∷ s) e (suc i) = bytes-are s (and-eq-true-iff (ltb b 256) (every (λ b. ltb b 256) s) .0 e .1) i
+use Rattle.promises.proofs.Witness.{bytes-are}
 
 abbrev lent : List ℕ
 lent = element 0x0010_0010 PN (ascii "Doe^Jane") ++ element 0x0020_000D UI (ascii "1.2.30") ++ element 0x0020_000E UI (ascii "1.2.31")

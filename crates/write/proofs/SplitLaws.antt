@@ -7,7 +7,7 @@
 use mathlib.Core.Path.{_≡_, refl, sym, ap, subst, _∙_}
 use mathlib.Core.Bool.{Bool, true, false}
 use mathlib.Core.List.{List, []}
-use mathlib.Core.Option.{Option, none, some}
+use mathlib.Core.Option.{none}
 use Prim.Native.Nat.{ℕ, zero, suc, _+_, _-_, _*_, _≤_, _<_}
 use native.Mathlib.Omega.{arith}
 use lib.IntN.{ℤ}
@@ -29,7 +29,8 @@ use Rattle.layout.proofs.ReadLaws.{was-bad, was-end, was-plain, was-seq, was-wr
 use Rattle.ledger.specs.Slots.{slotsOf}
 use Rattle.kept.specs.Settings.{Settings}
 use Rattle.kept.specs.Fates.{Level, inner, fate}
-use Rattle.kept.specs.Faults.{Fault, first, fieldFault, firstFault, itemsFault}
+use Rattle.kept.specs.Faults.{fieldFault, firstFault, itemsFault}
+use Rattle.kept.proofs.KeptLaws.{first-none}
 use Rattle.fates.specs.Meant.{levelOf}
 use Rattle.gains.specs.Gains.{gained}
 use Rattle.act.specs.Passed.{State, say, passed, passedOne, passedItems}
@@ -44,10 +45,6 @@ use Rattle.act.proofs.HoldsLaws.{holds-say}
 use Rattle.write.proofs.WroteLaws.{Splits, Going, going-end}
 
 -- ---- faults in values
-
-first-none : (a b : Option Fault) → first a b ≡ none → (a ≡ none) × (b ≡ none)
-first-none none b e = (refl, e)
-first-none (some f) b e = absurd (let z : _≡_ {A = ℕ} 0 1 = cc in omega arith)
 
 fault-elem : (w : Settings) (level : Level) (p : Place) (tag vr : ℕ) (f : Field Place) (es : Elements Place) → firstFault (elem p tag vr f es) w level ≡ none
     → (fieldFault f w level (fate w level tag vr) vr (p .at) ≡ none) × (firstFault es w level ≡ none)

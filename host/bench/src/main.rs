@@ -14,7 +14,8 @@ mod sets;
 use std::hint::black_box;
 use std::time::Duration;
 
-use measure::{medians, proved, run, run_batch, second};
+use measure::{medians, run, run_batch};
+use stations::{proved, second};
 
 const SLOTS: usize = 1_024;
 const LEDGER: usize = SLOTS * 64;

@@ -3,24 +3,11 @@
 use std::hint::black_box;
 use std::time::{Duration, Instant};
 
-use library::{Report, Request};
+use library::Request;
+use stations::Station;
 
 /// How often each thing is timed; the median counts.
 const TIMES: usize = 7;
-
-/// The proved library or the second program: reads a request, writes a ledger and an output.
-pub type Station = fn(&Request, &mut [u8], &mut [u8]) -> Report;
-
-pub fn proved(request: &Request, ledger: &mut [u8], out: &mut [u8]) -> Report {
-    library::deidentify(request, ledger, out)
-}
-
-pub fn second(request: &Request, ledger: &mut [u8], out: &mut [u8]) -> Report {
-    let Request { data, options, shift, root, study, site, used } = *request;
-    let reference::Report { refusal, offset, length, used, kept, replaced, renamed, removed } =
-        reference::deidentify(data, options, shift, root, study, site, ledger, used, out);
-    Report { refusal, offset, length, used, kept, replaced, renamed, removed }
-}
 
 /// A request without options and lists.
 pub fn request(data: &[u8], used: u64) -> Request<'_> {

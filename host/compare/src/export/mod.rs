@@ -20,26 +20,10 @@ pub use ledgers::Ledger;
 pub use library::{Report, Request};
 pub use lists::entry;
 pub use settings::Settings;
+pub use stations::{Station, proved, second};
 
 use crate::lent::{Lent, Room};
 use crate::pieces::Bytes;
-
-/// A station that is compared with the second program: the library's, or one with a planted fault. It is lent
-/// a request, a ledger and an output buffer.
-pub type Station = fn(&Request, &mut [u8], &mut [u8]) -> Report;
-
-/// The proved library's.
-pub fn proved(request: &Request, ledger: &mut [u8], out: &mut [u8]) -> Report {
-    library::deidentify(request, ledger, out)
-}
-
-/// The second program's.
-pub fn second(request: &Request, ledger: &mut [u8], out: &mut [u8]) -> Report {
-    let Request { data, options, shift, root, study, site, used } = *request;
-    let reference::Report { refusal, offset, length, used, kept, replaced, renamed, removed } =
-        reference::deidentify(data, options, shift, root, study, site, ledger, used, out);
-    Report { refusal, offset, length, used, kept, replaced, renamed, removed }
-}
 
 /// One run: everything that a station is lent, but for the bytes that it finds in its output buffer.
 #[derive(Clone)]
