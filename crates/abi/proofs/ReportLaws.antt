@@ -4,8 +4,8 @@ use mathlib.Core.Path.{_≡_, ap, _∙_}
 use mathlib.Core.List.{List}
 use Prim.Native.Nat.{ℕ}
 use lib.IntN.{ℤ}
-use Rattle.answer.specs.Input.{Input}
-use Rattle.answer.specs.Answer.{Report, reportOf, outputOf, ledgerOf}
+use Rattle.outcome.specs.Input.{Input}
+use Rattle.outcome.specs.Outcome.{Report, reportOf, outputOf, ledgerOf}
 use Rattle.abi.specs.Numbers.{reportNumbers}
 
 pub told-in-numbers : (i : ℤ → Input) {shift shift′ : ℤ} → shift′ ≡ shift → (r : Report) {o l ns : List ℕ}

@@ -1,23 +1,24 @@
 // The C interface (include/corravisk.h): each function is a thin layer over the crate that it is named for. Nothing is asked of the
 // caller but that pointers and lengths are true and that what may be written overlaps nothing else.
-use fates::Fate;
-use station::Outcome;
-use view::Answer;
+use station::HandedBack;
+use treatment::Fate;
+use treatment::Level;
+use view::ViewAnswer;
 ghost use mathlib.Core.Path.{_≡_};
 ghost use lib.ListN.{length};
+ghost use Rattle.layout.specs.Source.{explicitly};
 ghost use Rattle.view.specs.View.{viewOf};
-ghost use Rattle.fates.specs.Meant.{meant};
-ghost use Rattle.answer.specs.Answer.{reportOf, outputOf, ledgerOf};
-ghost use Rattle.station.specs.Entry.{inputOf, report as reportFor};
-ghost use Rattle.abi.specs.Numbers.{viewNumbers, reportNumbers, codeOf, actionNumbers};
+ghost use Rattle.outcome.specs.Outcome.{reportOf, outputOf, ledgerOf};
+ghost use Rattle.station.specs.Entry.{told, inputOf, report as reportFor};
+ghost use Rattle.abi.specs.Numbers.{viewNumbers, reportNumbers, fateNumber, levelMeant, actionNumbers};
 
 // The eight numbers of an outcome: a refusal hands back the count that was given.
-fn numbers_of(outcome: Outcome, used: u64) -> [u64; 8]
+fn numbers_of(outcome: HandedBack, used: u64) -> [u64; 8]
     ensures { λ r. ⌜ r ≡ reportNumbers (reportFor used outcome) ⌝ }
 {
     match outcome {
-        Outcome::Refused(n, o) => [n as u64, o as u64, 0, used, 0, 0, 0, 0],
-        Outcome::Done(t) => [
+        HandedBack::Refused(n, offset) => [n as u64, offset as u64, 0, used, 0, 0, 0, 0],
+        HandedBack::Done(t) => [
             0,
             0,
             t.pos as u64,
@@ -44,9 +45,9 @@ pub extern "C" fn corravisk_deidentify<'a>(
     out: &mut [u8],
     report: &mut [u64; 8],
 )
-    ensures report { λ _. ⌜ now (report .exit) ≡ reportNumbers (reportOf (inputOf (now (lent .entry)) options shift (now (root .entry)) (now (study .entry)) (now (site .entry)) (now (ledger .entry)) used (length (now (out .entry))))) ⌝ }
-    ensures output { λ _. ⌜ now (out .exit) ≡ outputOf (inputOf (now (lent .entry)) options shift (now (root .entry)) (now (study .entry)) (now (site .entry)) (now (ledger .entry)) used (length (now (out .entry)))) ⌝ }
-    ensures ledger { λ _. ⌜ now (ledger .exit) ≡ ledgerOf (inputOf (now (lent .entry)) options shift (now (root .entry)) (now (study .entry)) (now (site .entry)) (now (ledger .entry)) used (length (now (out .entry)))) ⌝ }
+    ensures report { λ _. ⌜ now (report .exit) ≡ reportNumbers (reportOf (inputOf (explicitly (now (lent .entry))) (told options shift (now (root .entry)) (now (study .entry)) (now (site .entry))) (now (ledger .entry)) used (length (now (out .entry))))) ⌝ }
+    ensures output { λ _. ⌜ now (out .exit) ≡ outputOf (inputOf (explicitly (now (lent .entry))) (told options shift (now (root .entry)) (now (study .entry)) (now (site .entry))) (now (ledger .entry)) used (length (now (out .entry)))) ⌝ }
+    ensures ledger { λ _. ⌜ now (ledger .exit) ≡ ledgerOf (inputOf (explicitly (now (lent .entry))) (told options shift (now (root .entry)) (now (study .entry)) (now (site .entry))) (now (ledger .entry)) used (length (now (out .entry)))) ⌝ }
 {
     let outcome = station::deidentify(
         lent,
@@ -65,25 +66,25 @@ pub extern "C" fn corravisk_deidentify<'a>(
 // refusal number (0: none), offset, 1 if found else 0, start and length of the part (0, 0 if not found)
 #[no_mangle]
 pub extern "C" fn corravisk_view(lent: &[u8], tag: u64, answer: &mut [u64; 5])
-    ensures { λ _. ⌜ now (answer .exit) ≡ viewNumbers (viewOf (now (lent .entry)) tag) ⌝ }
+    ensures { λ _. ⌜ now (answer .exit) ≡ viewNumbers (viewOf (explicitly (now (lent .entry))) tag) ⌝ }
 {
     let a = view::answer_to(lent, tag);
     match a {
-        Answer::Found(body, past) => {
+        ViewAnswer::Found(body, past) => {
             *answer = [0, 0, 1, body as u64, (past - body) as u64];
         }
-        Answer::Absent => {
+        ViewAnswer::Absent => {
             *answer = [0, 0, 0, 0, 0];
         }
-        Answer::Refused(n, o) => {
-            *answer = [n as u64, o as u64, 0, 0, 0];
+        ViewAnswer::Refused(n, offset) => {
+            *answer = [n as u64, offset as u64, 0, 0, 0];
         }
     }
 }
 
 // The number of what happens to an element.
-fn code_of(fate: Fate) -> u64
-    ensures { λ r. ⌜ r ≡ codeOf (meant fate) ⌝ }
+fn fate_number(fate: Fate) -> u64
+    ensures { λ r. ⌜ r ≡ fateNumber fate ⌝ }
 {
     match fate {
         Fate::Removed => 0,
@@ -97,12 +98,23 @@ fn code_of(fate: Fate) -> u64
     }
 }
 
+// The level that the caller's number means: 1 is the top.
+fn level_of(top: u64) -> Level
+    ensures { λ r. ⌜ r ≡ levelMeant top ⌝ }
+{
+    if top == 1 {
+        return Level::Top;
+    }
+    Level::Inner
+}
+
 // what happens to an element of this tag and VR: 0 removed, 1 kept, 2 walked into, 3 emptied, 4 dummied, 5 renamed, 6 shifted, 7 refused
 #[no_mangle]
 pub extern "C" fn corravisk_action(options: u64, top: u64, tag: u64, vr: u64, answer: &mut [u64; 1])
     ensures { λ _. ⌜ now (answer .exit) ≡ actionNumbers options top tag vr ⌝ }
 {
     let rows = table::rows();
-    let fate = fates::fate_of(&rows, options, top == 1, tag, vr);
-    *answer = [code_of(fate)];
+    let level = level_of(top);
+    let fate = treatment::fate_of(&rows, options, level, tag, vr);
+    *answer = [fate_number(fate)];
 }

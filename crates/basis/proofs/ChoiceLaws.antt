@@ -1,7 +1,9 @@
 -- Laws of `specs/Choice.antt`, in the form in which the arms of a `match` on a number ask for them. No contract cites this file.
 -- Assumes nothing.
+--     pick-map      a function of a choice is the choice of its values
 --     pick-case     what holds of x where the test holds, and of y where it does not, holds of pick b x y
 --     both-true, both-false    what a test of two says of each
+--     every-append  what a test says of two lists, one after the other
 --     arm           what f is at each pattern of an arm, it is in the arm: the test over all of them is computed
 --     among-each    what f is at each of some numbers, it is at a number among them
 --     among-none    a number that is none of the patterns is not among them
@@ -17,9 +19,14 @@ use lib.ListN.{length, replicate}
 use types.Run.{OneOf}
 use lib.Dec.{eqb}
 use borrow.Author.Tests.{ne-eqb, eqb-true}
-use Rattle.basis.specs.Choice.{pick, among}
+use Rattle.basis.specs.Choice.{pick, every, among}
 
 -- ---- pick
+
+-- a function of a choice is the choice of its values
+pub pick-map : {A B : Type 0} (f : A → B) (b : Bool) (x y : A) → f (pick b x y) ≡ pick b (f x) (f y)
+pick-map f true x y = refl
+pick-map f false x y = refl
 
 pub pick-case : {A : Type 0} (P : A → Type 0) (b : Bool) (x y : A) → (b ≡ true → P x) → (b ≡ false → P y) → P (pick b x y)
 pick-case P true x y f g = f refl
@@ -32,6 +39,17 @@ both-true false b e = absurd (false≢true e)
 pub both-false : (a b : Bool) → (a && b) ≡ false → a ≡ true → b ≡ false
 both-false true b e h = e
 both-false false b e h = absurd (false≢true h)
+
+-- ---- every
+
+pub every-append : {A : Type 0} (p : A → Bool) (us ws : List A) → every p (us ++ ws) ≡ every p us && every p ws
+unfolding every
+every-append p [] ws = refl
+every-append p (u ∷ us) ws = step (p u) (every-append p us ws)
+  where
+    step : (b : Bool) → every p (us ++ ws) ≡ every p us && every p ws → b && every p (us ++ ws) ≡ (b && every p us) && every p ws
+    step true ih = ih
+    step false ih = refl
 
 -- ---- the arms of a `match`
 

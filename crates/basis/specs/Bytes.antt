@@ -3,8 +3,11 @@
 --     le2 s i, le4 s i     the number that the two, or four, bytes at i spell
 --     low2 n, low4 n       the two, or four, lowest bytes of n
 --     AllBytes s           each number of s is a byte
+--     hasBit n k           a test: the bit k of the number n is 1, the lowest being the bit 0
+use mathlib.Core.Bool.{Bool}
 use mathlib.Core.List.{List, [], _∷_}
-use Prim.Native.Nat.{ℕ, _+_, _-_, _*_, _/_, _%_, _<_}
+use Prim.Native.Nat.{ℕ, _+_, _-_, _*_, _/_, _%_, _^_, _<_}
+use lib.Dec.{eqb}
 use lib.ListN.{take, drop, getD}
 
 abbrev pub part : List ℕ → ℕ → ℕ → List ℕ
@@ -24,3 +27,6 @@ low4 n = n % 256 ∷ n / 256 % 256 ∷ n / 65536 % 256 ∷ n / 16777216 % 256 �
 
 abbrev pub AllBytes : List ℕ → Type 0
 AllBytes s = (i : ℕ) → getD s i 0 < 256
+
+abbrev pub hasBit : ℕ → ℕ → Bool
+hasBit n k = eqb (n / 2 ^ k % 2) 1

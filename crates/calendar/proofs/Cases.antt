@@ -9,7 +9,7 @@ use Prim.Native.Char.{code}
 use Prim.Native.String.{String, [] as ended, _∷_ as led}
 use lib.IntN.{ℤ, pos, negsuc}
 use Rattle.basis.specs.Pieces.{pieces, after, joined}
-use Rattle.calendar.specs.Spans.{before, place}
+use Rattle.calendar.specs.Spans.{before, spanAt}
 use Rattle.calendar.specs.Dates.{leap, monthLen, dateOf, real}
 use Rattle.calendar.specs.Text.{twoDigits, dateAt, movedDate}
 use Rattle.calendar.specs.Values.{padded, datesEnd, shiftedText, allMove, shiftedValue}
@@ -109,7 +109,7 @@ pub cases :
     × Refuses DT same (text "2020030 ")
     × Refuses DT same (text "20200301\\")
     × Refuses DT same (text "19000229120000")
-unfolding before place leap monthLen dateOf real twoDigits dateAt movedDate pieces after joined padded datesEnd shiftedText allMove shiftedValue
+unfolding before spanAt leap monthLen dateOf real twoDigits dateAt movedDate pieces after joined padded datesEnd shiftedText allMove shiftedValue
 cases = (
   refl,
   refl,

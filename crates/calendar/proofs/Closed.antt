@@ -18,9 +18,9 @@ use lib.Dec.{eqb, leb, ltb}
 use lib.ListN.{getD, List·getD-eq-default}
 use borrow.Author.Tests.{eqb-true, eqb-false, leb-true}
 use Rattle.basis.specs.Choice.{pick}
-use Rattle.calendar.specs.Spans.{before, Within}
+use Rattle.calendar.specs.Spans.{before, InSpan}
 use Rattle.calendar.specs.Dates.{firstYear, leap, yearLen, monthLen, monthLens}
-use Rattle.calendar.proofs.SpansLaws.{within-below}
+use Rattle.calendar.proofs.SpansLaws.{inSpan-below}
 
 -- ---- years
 
@@ -161,9 +161,9 @@ whole-year y = before-month y 13 (omega arith) ∙ go (leap y)
     go false = refl
 
 pub month-below : (y n m : ℕ) → n ≤ yearLen y → before (monthLen y) m < n → m < 13
-month-below y n m h l = within-below (monthLen y) n m 13 l (omega (arith, whole-year y))
+month-below y n m h l = inSpan-below (monthLen y) n m 13 l (omega (arith, whole-year y))
 
-pub month-in : (y n m : ℕ) → 1 ≤ n → n ≤ yearLen y → Within (monthLen y) n m → (1 ≤ m) × (m ≤ 12)
+pub month-in : (y n m : ℕ) → 1 ≤ n → n ≤ yearLen y → InSpan (monthLen y) n m → (1 ≤ m) × (m ≤ 12)
 month-in y n m l h w =
-    let a : 1 < m + 1 = within-below (monthLen y) n 1 (m + 1) (omega (arith, month-high y 1 (omega arith))) (w .1) in
+    let a : 1 < m + 1 = inSpan-below (monthLen y) n 1 (m + 1) (omega (arith, month-high y 1 (omega arith))) (w .1) in
     (omega arith, omega (arith, month-below y n m h (w .0)))

@@ -22,12 +22,12 @@ use lib.Dec.{leb}
 use lib.IntN.{ℤ, pos, negsuc, negℤ}
 use borrow.Author.Tests.{leb-true, le-leb}
 use Rattle.basis.specs.Choice.{pick, then}
-use Rattle.calendar.specs.Spans.{before, Within, place}
+use Rattle.calendar.specs.Spans.{before, InSpan, spanAt}
 use Rattle.calendar.specs.Dates.{firstYear, lastYear, yearLen, monthLen, dayNumber, dateOf, real, onlyReal, later, moved, dateIn, refusalIn}
 use Rattle.calendar.specs.declared.Date.{Date}
 use Rattle.calendar.specs.declared.Moved.{Moved}
 use Rattle.calendar.specs.declared.Moved.the-variants.{To, Refused}
-use Rattle.calendar.proofs.SpansLaws.{lt-or-le, before-none, before-one, before-mono, within-below, place-found, place-is, place-first, place-past}
+use Rattle.calendar.proofs.SpansLaws.{lt-or-le, before-none, before-one, before-mono, inSpan-below, spanAt-found, spanAt-is, spanAt-first, spanAt-past}
 use Rattle.calendar.proofs.Closed.{year-high, year-long, month-none, whole-year}
 
 -- ---- real
@@ -87,12 +87,12 @@ pub date-is : (n : ℕ) (x : Date) (i : ℕ) → n ≤ before yearLen (lastYear 
     → before (monthLen (x .year)) (x .month) + x .day ≡ i → 1 ≤ x .day → x .day ≤ monthLen (x .year) (x .month) → dateOf n ≡ x
 unfolding dateOf
 date-is n x i h e l u f m v =
-    let a : place yearLen (lastYear + 1) 0 n ≡ (x .year, i) = place-is yearLen (lastYear + 1) n (x .year) i h e l u in
-    let b : place (monthLen (x .year)) 13 0 i ≡ (x .month, x .day) = place-is (monthLen (x .year)) 13 i (x .month) (x .day) (rw (whole-year (x .year)) u) f m v in
+    let a : spanAt yearLen (lastYear + 1) 0 n ≡ (x .year, i) = spanAt-is yearLen (lastYear + 1) n (x .year) i h e l u in
+    let b : spanAt (monthLen (x .year)) 13 0 i ≡ (x .month, x .day) = spanAt-is (monthLen (x .year)) 13 i (x .month) (x .day) (rw (whole-year (x .year)) u) f m v in
     rw (a, b) refl
 
-pub date-within : (n i : ℕ) (x : Date) → n ≤ before yearLen (lastYear + 1) → Within yearLen n (x .year) → i ≡ n - before yearLen (x .year)
-    → Within (monthLen (x .year)) i (x .month) → x .day ≡ i - before (monthLen (x .year)) (x .month) → x ≡ dateOf n
+pub date-within : (n i : ℕ) (x : Date) → n ≤ before yearLen (lastYear + 1) → InSpan yearLen n (x .year) → i ≡ n - before yearLen (x .year)
+    → InSpan (monthLen (x .year)) i (x .month) → x .day ≡ i - before (monthLen (x .year)) (x .month) → x ≡ dateOf n
 date-within n i x h v e w f =
     sym (date-is n x i h (omega arith) (omega arith) (omega (arith, before-one yearLen (x .year))) (omega arith) (omega arith)
     (omega (arith, before-one (monthLen (x .year)) (x .month))))
@@ -101,7 +101,7 @@ pub date-number : (x : Date) → Real x → dateOf (dayNumber x) ≡ x
 date-number x r = date-is (dayNumber x) x _ (number-high x r) refl (omega (arith, r .d₁)) (in-year x r) refl (r .d₁) (r .dₙ)
 
 record Dated (n : ℕ) (x : Date) : Type 0 where
-  pub year-is : Within yearLen n (x .year)
+  pub year-is : InSpan yearLen n (x .year)
   pub number-is : dayNumber x ≡ n
   pub d₁ : 1 ≤ x .day
   pub dₙ : x .day ≤ monthLen (x .year) (x .month)
@@ -109,13 +109,13 @@ record Dated (n : ℕ) (x : Date) : Type 0 where
 dated : (n : ℕ) → 1 ≤ n → n ≤ before yearLen (lastYear + 1) → Dated n (dateOf n)
 unfolding dateOf
 dated n l h =
-    let p = place-found yearLen (lastYear + 1) 0 n n (omega (arith, before-none yearLen)) l h in
-    let y = place yearLen (lastYear + 1) 0 n .0 in
-    let i = place yearLen (lastYear + 1) 0 n .1 in
+    let p = spanAt-found yearLen (lastYear + 1) 0 n n (omega (arith, before-none yearLen)) l h in
+    let y = spanAt yearLen (lastYear + 1) 0 n .0 in
+    let i = spanAt yearLen (lastYear + 1) 0 n .1 in
     let j : 1 ≤ i = omega (arith, p .within .0, p .day) in
     let k : i ≤ before (monthLen y) 13 = omega (arith, p .within .1, p .day, before-one yearLen y, whole-year y) in
-    let q = place-found (monthLen y) 13 0 i i (omega (arith, before-none (monthLen y))) j k in
-    let m = place (monthLen y) 13 0 i .0 in
+    let q = spanAt-found (monthLen y) 13 0 i i (omega (arith, before-none (monthLen y))) j k in
+    let m = spanAt (monthLen y) 13 0 i .0 in
     record {
       year-is = p .within;
       number-is = omega (arith, p .day, q .day);
@@ -132,8 +132,8 @@ pub real-date : (n : ℕ) → before yearLen firstYear < n → n ≤ before year
 real-date n l h =
     let d : Dated n (dateOf n) = dated n (omega arith) h in
     let y : ℕ = dateOf n .year in
-    let a : firstYear < y + 1 = within-below yearLen n firstYear (y + 1) l (d .year-is .1) in
-    let b : y < lastYear + 1 = within-below yearLen n y (lastYear + 1) (d .year-is .0) h in
+    let a : firstYear < y + 1 = inSpan-below yearLen n firstYear (y + 1) l (d .year-is .1) in
+    let b : y < lastYear + 1 = inSpan-below yearLen n y (lastYear + 1) (d .year-is .0) h in
     record { y₁ = omega arith; yₙ = omega arith; d₁ = d .d₁; dₙ = d .dₙ }
 
 not-real : (x : Date) → (Real x → ⊥) → real x ≡ false
@@ -145,14 +145,14 @@ not-real x f = step (real x) refl
 
 year-zero : (n : ℕ) → n ≤ before yearLen firstYear → dateOf n .year ≡ 0
 unfolding dateOf
-year-zero n h = place-first yearLen lastYear n (omega (arith, before-one yearLen 0, before-none yearLen))
+year-zero n h = spanAt-first yearLen lastYear n (omega (arith, before-one yearLen 0, before-none yearLen))
 
 pub low-date : (n : ℕ) → n ≤ before yearLen firstYear → real (dateOf n) ≡ false
 low-date n h = not-real (dateOf n) (λ r. omega (arith, r .y₁, year-zero n h))
 
 year-past : (n : ℕ) → before yearLen (lastYear + 1) < n → dateOf n .year ≡ lastYear + 1
 unfolding dateOf
-year-past n h = place-past yearLen (lastYear + 1) 0 n (omega (arith, before-none yearLen))
+year-past n h = spanAt-past yearLen (lastYear + 1) 0 n (omega (arith, before-none yearLen))
 
 pub high-date : (n : ℕ) → before yearLen (lastYear + 1) < n → real (dateOf n) ≡ false
 high-date n h = not-real (dateOf n) (λ r. omega (arith, r .yₙ, year-past n h))

@@ -13,17 +13,18 @@ use Prim.Native.Nat.{ℕ, _+_, _-_, _≤_, _<_}
 use native.Mathlib.Omega.{arith}
 use lib.IntN.{ℤ}
 use lib.ListN.{length}
-use Rattle.basis.specs.Choice.{fork, then}
+use Rattle.basis.specs.Choice.{fork, then, isSome, isNone}
 use Rattle.basis.specs.Bytes.{part}
-use Rattle.basis.specs.Pieces.{pieces}
+use Rattle.basis.specs.Pieces.{pieces, pieceEnd}
 use Rattle.basis.proofs.BytesLaws.{part-none, length-part}
+use Rattle.basis.proofs.PieceEndLaws.{PieceEnd, pieceEnd-is}
 use Rattle.calendar.specs.Dates.{moved}
-use Rattle.calendar.specs.Text.{dateLength, dateAt, rightLength, movedDate, found}
-use Rattle.calendar.specs.Values.{datesEnd, datePieces, shiftedText, allMove, shiftedValue, refused, firstPiece}
+use Rattle.calendar.specs.Text.{dateLength, dateAt, rightLength, movedDate}
+use Rattle.calendar.specs.Values.{datesEnd, datePieces, shiftedText, allMove, shiftedValue}
 use Rattle.calendar.specs.declared.Date.{Date}
 use Rattle.calendar.proofs.TextLaws.{right-long}
 use Rattle.calendar.proofs.ValuesLaws.{shiftedValue-nil}
-use Rattle.calendar.proofs.Walks.{date-part, Cut, cut-of, dates-upto, dates-take}
+use Rattle.calendar.proofs.Walks.{date-part, dates-upto, dates-take}
 
 -- ---- moved_date
 
@@ -41,16 +42,16 @@ module _ (da : Bool) (s : List ℕ) (a b : ℕ) (in-s : b ≤ length s) (days : 
 
 -- ---- date_fault
 
-pub judge-nothing : (da : Bool) (s : List ℕ) (from to : ℕ) (days : ℤ) → from ≡ to → false ≡ refused (shiftedValue da days (part s from to))
+pub judge-nothing : (da : Bool) (s : List ℕ) (from to : ℕ) (days : ℤ) → from ≡ to → false ≡ isNone (shiftedValue da days (part s from to))
 judge-nothing da s from to days e =
-    sym (ap (λ v. refused (shiftedValue da days v)) (ap (part s from) (sym e) ∙ part-none s from) ∙ ap refused (shiftedValue-nil da days))
+    sym (ap (λ v. isNone (shiftedValue da days v)) (ap (part s from) (sym e) ∙ part-none s from) ∙ ap isNone (shiftedValue-nil da days))
 
-refused-is : (da : Bool) (days : ℤ) (v : List ℕ) → 0 < length v → refused (shiftedValue da days v) ≡ not (allMove da days (datePieces da v))
+refused-is : (da : Bool) (days : ℤ) (v : List ℕ) → 0 < length v → isNone (shiftedValue da days v) ≡ not (allMove da days (datePieces da v))
 unfolding shiftedValue
 refused-is da days [] l = absurd (omega arith)
 refused-is da days (x ∷ v) l = go (allMove da days (datePieces da (x ∷ v)))
   where
-    go : (b : Bool) → refused (fork b (λ _. some (shiftedText da days (x ∷ v))) (λ _. none)) ≡ not b
+    go : (b : Bool) → isNone (fork b (λ _. some (shiftedText da days (x ∷ v))) (λ _. none)) ≡ not b
     go true = refl
     go false = refl
 
@@ -59,7 +60,7 @@ pub record Judging (da : Bool) (s : List ℕ) (from to : ℕ) (days : ℤ) (stop
   pub hi : a ≤ stop
   pub upto : stop ≤ to
   pub in-s : to ≤ length s
-  pub left : refused (shiftedValue da days (part s from to)) ≡ not (allMove da days (pieces (part s a stop)))
+  pub left : isNone (shiftedValue da days (part s from to)) ≡ not (allMove da days (pieces (part s a stop)))
 
 pub judge-start : (da : Bool) (s : List ℕ) (from to : ℕ) (days : ℤ) {stop : ℕ} → to ≤ length s → from < to
     → stop ≡ from + datesEnd da (part s from to) → Judging da s from to days stop from
@@ -76,31 +77,31 @@ judge-start da s from to days {stop} in-s lt e =
     }
 
 module _ {da : Bool} {s : List ℕ} {from to : ℕ} {days : ℤ} {stop a b : ℕ} (g : Judging da s from to days stop a)
-    (e : b ≡ a + length (firstPiece (pieces (part s a stop)))) where
-  pub judge-cut : Cut s a stop b
-  judge-cut = cut-of s a stop b (g .hi) (omega (arith, g .upto, g .in-s)) e
+    (e : b ≡ pieceEnd s a stop) where
+  pub judge-cut : PieceEnd s a stop b
+  judge-cut = pieceEnd-is s a stop (g .hi) (omega (arith, g .upto, g .in-s)) b e
 
   module _ {o : Option Date} (m : o ≡ movedDate da days (part s a b)) where
-    left-is : refused (shiftedValue da days (part s from to)) ≡ not (found o && allMove da days (judge-cut .others))
+    left-is : isNone (shiftedValue da days (part s from to)) ≡ not (isSome o && allMove da days (judge-cut .others))
     unfolding allMove
     left-is =
         g .left ∙ ap (λ us. not (allMove da days us)) (judge-cut .cut)
-        ∙ ap (λ o. not (found o && allMove da days (judge-cut .others))) (sym m)
+        ∙ ap (λ o. not (isSome o && allMove da days (judge-cut .others))) (sym m)
 
-    pub judge-bad : {days′ : ℤ} → o ≡ none → days ≡ days′ → true ≡ refused (shiftedValue da days′ (part s from to))
+    pub judge-bad : {days′ : ℤ} → o ≡ none → days ≡ days′ → true ≡ isNone (shiftedValue da days′ (part s from to))
     judge-bad f same =
-        sym (left-is ∙ ap (λ o. not (found o && allMove da days (judge-cut .others))) f)
-        ∙ ap (λ z. refused (shiftedValue da z (part s from to))) same
+        sym (left-is ∙ ap (λ o. not (isSome o && allMove da days (judge-cut .others))) f)
+        ∙ ap (λ z. isNone (shiftedValue da z (part s from to))) same
 
     module _ {d : Date} (f : o ≡ some d) where
-      left-others : refused (shiftedValue da days (part s from to)) ≡ not (allMove da days (judge-cut .others))
-      left-others = left-is ∙ ap (λ o. not (found o && allMove da days (judge-cut .others))) f
+      left-others : isNone (shiftedValue da days (part s from to)) ≡ not (allMove da days (judge-cut .others))
+      left-others = left-is ∙ ap (λ o. not (isSome o && allMove da days (judge-cut .others))) f
 
-      pub judge-last : {days′ : ℤ} → b ≡ stop → days ≡ days′ → false ≡ refused (shiftedValue da days′ (part s from to))
+      pub judge-last : {days′ : ℤ} → b ≡ stop → days ≡ days′ → false ≡ isNone (shiftedValue da days′ (part s from to))
       unfolding allMove
       judge-last at same =
           sym (left-others ∙ ap (λ us. not (allMove da days us)) (judge-cut .last at))
-          ∙ ap (λ z. refused (shiftedValue da z (part s from to))) same
+          ∙ ap (λ z. isNone (shiftedValue da z (part s from to))) same
 
       pub judge-on : b < stop → Judging da s from to days stop (b + 1)
       judge-on l = record {

@@ -2,7 +2,6 @@ pub mod SpansLaws
 pub mod Closed
 pub mod DatesLaws
 pub mod Signs
-pub mod PartLaws
 pub mod TextLaws
 pub mod ValuesLaws
 pub mod Walks

@@ -19,10 +19,11 @@ use lib.IntN.{ℤ, pos, negℤ}
 use lib.ListN.{length, drop, getD, length-append, length-drop, drop-of-length-le}
 use lib.Seq.{drop-cons}
 use borrow.Author.Tests.{le-leb, leb-true, eqb-true}
-use Rattle.basis.specs.Choice.{pick, fork, then}
+use Rattle.basis.specs.Choice.{pick, fork, then, isSome}
+use Rattle.basis.specs.Text.{digit0, digit9}
 use Rattle.basis.proofs.PiecesLaws.{Free, free-append, free-drop}
 use Rattle.calendar.specs.Dates.{moved}
-use Rattle.calendar.specs.Text.{digit0, digit9, dateLength, twoDigits, twoAt, dateAt, twoText, dateText, rightLength, movedDate, withDate, shiftedPiece, found}
+use Rattle.calendar.specs.Text.{dateLength, twoDigits, twoAt, dateAt, twoText, dateText, rightLength, movedDate, withDate, shiftedPiece}
 use Rattle.calendar.specs.declared.Date.{Date}
 use Rattle.calendar.proofs.Closed.{month-short}
 use Rattle.calendar.proofs.DatesLaws.{Real, real-month, moved-is, moved-back, moved-zero}
@@ -190,28 +191,28 @@ shiftedPiece-free c da days u h f = go (movedDate da days u)
     go (some d) = free-append c (dateText d) (drop dateLength u) (text-free c d h) (free-drop c dateLength u f)
 
 -- the date of a DA value is the whole piece
-pub shiftedPiece-tight : (c : ℕ) (days : ℤ) (u : List ℕ) → NoDigit c → found (movedDate true days u) ≡ true → Free c (shiftedPiece true days u)
+pub shiftedPiece-tight : (c : ℕ) (days : ℤ) (u : List ℕ) → NoDigit c → isSome (movedDate true days u) ≡ true → Free c (shiftedPiece true days u)
 shiftedPiece-tight c days u h f = go (movedDate true days u) refl f
   where
-    go : (o : Option Date) → movedDate true days u ≡ o → found o ≡ true → Free c (withDate u o)
+    go : (o : Option Date) → movedDate true days u ≡ o → isSome o ≡ true → Free c (withDate u o)
     go none e g = absurd (false≢true g)
     go (some d) e g =
         let n : length u ≡ dateLength = eqb-true _ _ (moved-date-is true days u d e .right) in
         free-append c (dateText d) (drop dateLength u) (text-free c d h) (subst (Free c) (sym (drop-of-length-le u {i = dateLength} (omega arith))) tt)
 
 pub record Again (da : Bool) (days : ℤ) (w u : List ℕ) : Type 0 where
-  pub moves : found (movedDate da days w) ≡ true
+  pub moves : isSome (movedDate da days w) ≡ true
   pub gives : shiftedPiece da days w ≡ u
 
 again : (da : Bool) (days : ℤ) (w u : List ℕ) (d : Date) → IsMovedDate da days w d → dateText d ++ drop dateLength w ≡ u → Again da days w u
 again da days w u d m e =
     let f : movedDate da days w ≡ some d = is-moved-date da days w d m in
-    record { moves = ap found f; gives = ap (withDate w) f ∙ e }
+    record { moves = ap isSome f; gives = ap (withDate w) f ∙ e }
 
-pub shiftedPiece-back : (da : Bool) (days : ℤ) (u : List ℕ) → found (movedDate da days u) ≡ true → Again da (negℤ days) (shiftedPiece da days u) u
+pub shiftedPiece-back : (da : Bool) (days : ℤ) (u : List ℕ) → isSome (movedDate da days u) ≡ true → Again da (negℤ days) (shiftedPiece da days u) u
 shiftedPiece-back da days u f = go (movedDate da days u) refl f
   where
-    go : (o : Option Date) → movedDate da days u ≡ o → found o ≡ true → Again da (negℤ days) (withDate u o) u
+    go : (o : Option Date) → movedDate da days u ≡ o → isSome o ≡ true → Again da (negℤ days) (withDate u o) u
     go none e g = absurd (false≢true g)
     go (some y) e g =
         let m : IsMovedDate da days u y = moved-date-is da days u y e in
@@ -225,10 +226,10 @@ shiftedPiece-back da days u f = go (movedDate da days u) refl f
         })
         (text-date u (m .d) l (m .read))
 
-pub shiftedPiece-zero : (da : Bool) (days : ℤ) (u : List ℕ) → found (movedDate da days u) ≡ true → Again da (pos 0) u u
+pub shiftedPiece-zero : (da : Bool) (days : ℤ) (u : List ℕ) → isSome (movedDate da days u) ≡ true → Again da (pos 0) u u
 shiftedPiece-zero da days u f = go (movedDate da days u) refl f
   where
-    go : (o : Option Date) → movedDate da days u ≡ o → found o ≡ true → Again da (pos 0) u u
+    go : (o : Option Date) → movedDate da days u ≡ o → isSome o ≡ true → Again da (pos 0) u u
     go none e g = absurd (false≢true g)
     go (some y) e g =
         let m : IsMovedDate da days u y = moved-date-is da days u y e in

@@ -23,11 +23,11 @@ use lib.IntN.{ℤ, pos, negℤ}
 use lib.ListN.{length, take, drop, getD, length-append, take-append-drop}
 use lib.Seq.{length-take-le, take-at, drop-at, getD-at, drop-length, drop-cons}
 use borrow.Author.Tests.{eqb-true, eq-eqb, ne-eqb}
-use Rattle.basis.specs.Choice.{pick, fork}
+use Rattle.basis.specs.Choice.{pick, fork, isSome, isNone}
 use Rattle.basis.specs.Pieces.{backslash, pieces, after, joined}
 use Rattle.basis.proofs.PiecesLaws.{Free, FreeAll, free-append, free-getD, pieces-some, pieces-free, joined-pieces, pieces-joined}
-use Rattle.calendar.specs.Text.{movedDate, shiftedPiece, found}
-use Rattle.calendar.specs.Values.{space, padded, datesEnd, datePieces, shiftedText, allMove, isEmpty, shiftedValue, refused}
+use Rattle.calendar.specs.Text.{movedDate, shiftedPiece}
+use Rattle.calendar.specs.Values.{space, padded, datesEnd, datePieces, shiftedText, allMove, isEmpty, shiftedValue}
 use Rattle.calendar.proofs.TextLaws.{Again, NoDigit, length-shiftedPiece, shiftedPiece-free, shiftedPiece-tight, shiftedPiece-back, shiftedPiece-zero}
 
 -- ---- datesEnd
@@ -87,14 +87,14 @@ module _ (da : Bool) (days : ℤ) where
   unfolding allMove
   all-back [] e = none-again da (negℤ days)
   all-back (u ∷ us) e =
-      let s = and-eq-true-iff (found (movedDate da days u)) (allMove da days us) .0 e in
+      let s = and-eq-true-iff (isSome (movedDate da days u)) (allMove da days us) .0 e in
       all-again da (negℤ days) (shiftedPiece da days u) u (map (shiftedPiece da days) us) us (shiftedPiece-back da days u (s .0)) (all-back us (s .1))
 
   all-zero : (us : List (List ℕ)) → allMove da days us ≡ true → AllAgain da (pos 0) us us
   unfolding allMove
   all-zero [] e = none-again da (pos 0)
   all-zero (u ∷ us) e =
-      let s = and-eq-true-iff (found (movedDate da days u)) (allMove da days us) .0 e in
+      let s = and-eq-true-iff (isSome (movedDate da days u)) (allMove da days us) .0 e in
       all-again da (pos 0) u u us us (shiftedPiece-zero da days u (s .0)) (all-zero us (s .1))
 
 -- a DA value of dates alone has no space
@@ -103,14 +103,14 @@ module _ (days : ℤ) where
   unfolding allMove after
   after-free [] e = tt
   after-free (u ∷ us) e =
-      let s = and-eq-true-iff (found (movedDate true days u)) (allMove true days us) .0 e in
+      let s = and-eq-true-iff (isSome (movedDate true days u)) (allMove true days us) .0 e in
       (λ b. omega arith, free-append space (shiftedPiece true days u) _ (shiftedPiece-tight space days u no-space (s .0)) (after-free us (s .1)))
 
   joined-free : (us : List (List ℕ)) → allMove true days us ≡ true → Free space (joined (map (shiftedPiece true days) us))
   unfolding allMove joined
   joined-free [] e = tt
   joined-free (u ∷ us) e =
-      let s = and-eq-true-iff (found (movedDate true days u)) (allMove true days us) .0 e in
+      let s = and-eq-true-iff (isSome (movedDate true days u)) (allMove true days us) .0 e in
       free-append space (shiftedPiece true days u) _ (shiftedPiece-tight space days u no-space (s .0)) (after-free us (s .1))
 
 -- ---- shiftedText
@@ -219,17 +219,17 @@ pub shiftedValue-text : (da : Bool) (days : ℤ) (v x : List ℕ) → shiftedVal
 shiftedValue-text da days v x e = sym (shiftedValue-is da days v x e .text)
 
 -- by the answer of `date_fault`
-pub shiftedValue-refused : (da : Bool) (days : ℤ) (v : List ℕ) → refused (shiftedValue da days v) ≡ true → shiftedValue da days v ≡ none
+pub shiftedValue-refused : (da : Bool) (days : ℤ) (v : List ℕ) → isNone (shiftedValue da days v) ≡ true → shiftedValue da days v ≡ none
 shiftedValue-refused da days v e = go (shiftedValue da days v) e
   where
-    go : (o : Option (List ℕ)) → refused o ≡ true → o ≡ none
+    go : (o : Option (List ℕ)) → isNone o ≡ true → o ≡ none
     go none e = refl
     go (some x) e = absurd (false≢true e)
 
-pub shiftedValue-good : (da : Bool) (days : ℤ) (v : List ℕ) → refused (shiftedValue da days v) ≡ false → shiftedValue da days v ≡ some (shiftedText da days v)
+pub shiftedValue-good : (da : Bool) (days : ℤ) (v : List ℕ) → isNone (shiftedValue da days v) ≡ false → shiftedValue da days v ≡ some (shiftedText da days v)
 shiftedValue-good da days v e = go (shiftedValue da days v) refl e
   where
-    go : (o : Option (List ℕ)) → shiftedValue da days v ≡ o → refused o ≡ false → shiftedValue da days v ≡ some (shiftedText da days v)
+    go : (o : Option (List ℕ)) → shiftedValue da days v ≡ o → isNone o ≡ false → shiftedValue da days v ≡ some (shiftedText da days v)
     go none h e = absurd (false≢true (sym e))
     go (some x) h e = h ∙ ap some (sym (shiftedValue-text da days v x h))
 

@@ -15,17 +15,17 @@ use lib.IntN.{ℤ}
 use lib.ListN.{length, drop, length-append}
 use lib.Seq.{drop-at}
 use Rattle.basis.specs.Bytes.{part}
-use Rattle.basis.specs.Pieces.{backslash, pieces, joined}
-use Rattle.basis.proofs.BytesLaws.{length-part}
+use Rattle.basis.specs.Pieces.{backslash, pieces, joined, pieceEnd}
+use Rattle.basis.proofs.BytesLaws.{length-part, part-part}
 use Rattle.basis.proofs.PiecesLaws.{pieces-some, joined-more, joined-one}
+use Rattle.basis.proofs.PieceEndLaws.{PieceEnd, pieceEnd-is}
 use Rattle.buffer.specs.Buffer.{laid}
 use Rattle.buffer.proofs.Laws.{laid-none, laid-more, length-laid}
 use Rattle.calendar.specs.Text.{dateLength, dateText, movedDate, withDate, shiftedPiece}
-use Rattle.calendar.specs.Values.{datesEnd, shiftedText, firstPiece}
+use Rattle.calendar.specs.Values.{datesEnd, shiftedText}
 use Rattle.calendar.specs.declared.Date.{Date}
-use Rattle.calendar.proofs.PartLaws.{part-part}
 use Rattle.calendar.proofs.TextLaws.{right-long, moved-date-is, length-shiftedPiece}
-use Rattle.calendar.proofs.Walks.{Cut, cut-of, dates-upto, dates-take, dates-drop}
+use Rattle.calendar.proofs.Walks.{dates-upto, dates-take, dates-drop}
 
 -- ---- put_piece
 
@@ -92,9 +92,9 @@ write-start da s from to days o pos {stop} le in-s e =
     }
 
 module _ {da : Bool} {s : List ℕ} {from to : ℕ} {days : ℤ} {stop : ℕ} {o₀ : List ℕ} {pos : ℕ} {o : List ℕ} {a p b : ℕ}
-    (g : Writing da s from to days stop o₀ pos o a p) (e : b ≡ a + length (firstPiece (pieces (part s a stop)))) where
-  pub write-cut : Cut s a stop b
-  write-cut = cut-of s a stop b (g .hi) (omega (arith, g .upto, g .in-s)) e
+    (g : Writing da s from to days stop o₀ pos o a p) (e : b ≡ pieceEnd s a stop) where
+  pub write-cut : PieceEnd s a stop b
+  write-cut = pieceEnd-is s a stop (g .hi) (omega (arith, g .upto, g .in-s)) b e
 
   abbrev piece : List ℕ
   piece = shiftedPiece da days (part s a b)

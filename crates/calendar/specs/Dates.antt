@@ -18,8 +18,9 @@ use Prim.Native.Nat.{ℕ, _+_, _-_, _%_}
 use lib.Dec.{eqb, leb}
 use lib.IntN.{ℤ, pos, negsuc}
 use lib.ListN.{getD}
+use Rattle.refusals.specs.Refusals.{badDates}
 use Rattle.basis.specs.Choice.{pick, then}
-use Rattle.calendar.specs.Spans.{before, place}
+use Rattle.calendar.specs.Spans.{before, spanAt}
 use Rattle.calendar.specs.declared.Date.{Date}
 use Rattle.calendar.specs.declared.Moved.{Moved}
 use Rattle.calendar.specs.declared.Moved.the-variants.{To, Refused}
@@ -50,8 +51,8 @@ dayNumber d = before yearLen (d .year) + (before (monthLen (d .year)) (d .month)
 
 unfoldable pub dateOf : ℕ → Date
 dateOf n =
-    let y = place yearLen (lastYear + 1) 0 n in
-    let m = place (monthLen (y .0)) 13 0 (y .1) in
+    let y = spanAt yearLen (lastYear + 1) 0 n in
+    let m = spanAt (monthLen (y .0)) 13 0 (y .1) in
     record { year = y .0; month = m .0; day = m .1 }
 
 -- Document 01, No. 12: a real day, in the years. A month that there is not has no day
@@ -75,4 +76,4 @@ dateIn Refused = none
 
 abbrev pub refusalIn : Moved → ℕ
 refusalIn (To d) = 0
-refusalIn Refused = 12
+refusalIn Refused = badDates

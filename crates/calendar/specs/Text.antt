@@ -1,6 +1,5 @@
 -- Dates as text, and a piece of a value with its date moved: document 01, "UIDs, dates, lists", 2nd paragraph, and refusal 12. `da` says
 -- whether the piece stands in a DA value or in a DT value. Assumes nothing.
---     digit0, digit9         the characters 0 and 9
 --     dateLength             how many characters a date has
 --     twoDigits x y          the number that two characters spell, or nothing where they are not digits
 --     dateAt s a             the date that the characters of s from the place a on spell, real or not, or nothing
@@ -9,9 +8,8 @@
 --     movedDate da days u    the date of the piece u, moved, or nothing: u is malformed, or its date can't be moved
 --     withDate u d           the piece u with the date d for its own; u itself where there is none
 --     shiftedPiece da days u the piece u with its date moved; u itself where it has none that can be moved
---     found o                there is something
 --     numberIn r             what each answer of `two_digits` says
-use mathlib.Core.Bool.{Bool, true, false, _&&_}
+use mathlib.Core.Bool.{Bool, _&&_}
 use mathlib.Core.List.{List, [], _∷_, _++_}
 use mathlib.Core.Option.{Option, none, some}
 use Prim.Native.Nat.{ℕ, _+_, _-_, _*_, _/_, _%_}
@@ -19,23 +17,15 @@ use lib.Dec.{eqb, leb}
 use lib.IntN.{ℤ}
 use lib.ListN.{length, drop, getD}
 use Rattle.basis.specs.Choice.{pick, fork, then}
+use Rattle.basis.specs.Text.{digit0, isDigit}
 use Rattle.calendar.specs.Dates.{moved}
 use Rattle.calendar.specs.declared.Date.{Date}
 use Rattle.calendar.specs.declared.Two.{Two}
 use Rattle.calendar.specs.declared.Two.the-variants.{Number, NoDigits}
 
-abbrev pub digit0 : ℕ
-digit0 = 48
-
-abbrev pub digit9 : ℕ
-digit9 = 57
-
 -- Document 01, dates, 3rd sentence: eight digits
 abbrev pub dateLength : ℕ
 dateLength = 8
-
-abbrev pub isDigit : ℕ → Bool
-isDigit x = leb digit0 x && leb x digit9
 
 unfoldable pub twoDigits : ℕ → ℕ → Option ℕ
 twoDigits x y = pick (isDigit x && isDigit y) (some (10 * (x - digit0) + (y - digit0))) none
@@ -74,10 +64,6 @@ withDate u (some d) = dateText d ++ drop dateLength u
 
 abbrev pub shiftedPiece : Bool → ℤ → List ℕ → List ℕ
 shiftedPiece da days u = withDate u (movedDate da days u)
-
-abbrev pub found : {A : Type 0} → Option A → Bool
-found none = false
-found (some a) = true
 
 abbrev pub numberIn : Two → Option ℕ
 numberIn (Number n) = some n

@@ -7,18 +7,16 @@
 --     shiftedText da days v     the value v with each of its dates moved; a piece that has none that can be moved stays as it is
 --     allMove da days us        each of the pieces us has a date that can be moved
 --     shiftedValue da days v    the value v, shifted, or nothing where it is refused with 12
---     refused o                 there is nothing
---     firstPiece us             the first of some pieces
-use mathlib.Core.Bool.{Bool, true, false, not, _&&_, _||_}
+use mathlib.Core.Bool.{Bool, true, false, _&&_, _||_}
 use mathlib.Core.List.{List, [], _∷_, _++_, map}
 use mathlib.Core.Option.{Option, none, some}
 use Prim.Native.Nat.{ℕ, _-_, _%_}
 use lib.Dec.{eqb}
 use lib.IntN.{ℤ}
 use lib.ListN.{length, take, drop, getD}
-use Rattle.basis.specs.Choice.{pick, fork}
+use Rattle.basis.specs.Choice.{pick, fork, isSome}
 use Rattle.basis.specs.Pieces.{pieces, joined}
-use Rattle.calendar.specs.Text.{movedDate, shiftedPiece, found}
+use Rattle.calendar.specs.Text.{movedDate, shiftedPiece}
 
 abbrev pub space : ℕ
 space = 32
@@ -39,7 +37,7 @@ shiftedText da days v = joined (map (shiftedPiece da days) (datePieces da v)) ++
 
 unfoldable pub allMove : Bool → ℤ → List (List ℕ) → Bool
 allMove da days [] = true
-allMove da days (u ∷ us) = found (movedDate da days u) && allMove da days us
+allMove da days (u ∷ us) = isSome (movedDate da days u) && allMove da days us
 
 abbrev pub isEmpty : List ℕ → Bool
 isEmpty [] = true
@@ -48,10 +46,3 @@ isEmpty (x ∷ v) = false
 -- Document 01, No. 12, and dates, last sentence: an empty value stays empty (reading D3)
 unfoldable pub shiftedValue : Bool → ℤ → List ℕ → Option (List ℕ)
 shiftedValue da days v = fork (isEmpty v || allMove da days (datePieces da v)) (λ _. some (shiftedText da days v)) (λ _. none)
-
-abbrev pub refused : {A : Type 0} → Option A → Bool
-refused o = not (found o)
-
-abbrev pub firstPiece : List (List ℕ) → List ℕ
-firstPiece [] = []
-firstPiece (u ∷ us) = u

@@ -3,13 +3,12 @@ ghost use mathlib.Core.Path.{_≡_};
 ghost use Prim.Native.Nat.{_+_, _-_, _≤_, _<_, _^_};
 ghost use lib.ListN.{length};
 ghost use Rattle.basis.specs.Bytes.{part};
-ghost use Rattle.basis.specs.Choice.{then};
-ghost use Rattle.basis.specs.Pieces.{pieces};
+ghost use Rattle.basis.specs.Choice.{then, isNone};
 ghost use Rattle.buffer.specs.Buffer.{laid};
-ghost use Rattle.calendar.specs.Spans.{before, Within};
+ghost use Rattle.calendar.specs.Spans.{before, InSpan};
 ghost use Rattle.calendar.specs.Dates.{firstYear, lastYear, leap, yearLen, monthLen, dateOf, real, later, moved, dateIn};
 ghost use Rattle.calendar.specs.Text.{dateLength, twoDigits, dateAt, dateText, rightLength, movedDate, shiftedPiece, numberIn};
-ghost use Rattle.calendar.specs.Values.{datesEnd, shiftedText, shiftedValue, refused, firstPiece};
+ghost use Rattle.calendar.specs.Values.{datesEnd, shiftedText, shiftedValue};
 
 // The years that a date may have.
 const FIRST_YEAR: u32 = 1;
@@ -110,7 +109,7 @@ fn is_real(d: Date) -> bool
 // The year that has the day n: as if each fourth year were a leap year, and then on from there, mostly by no year and at most by one.
 fn year_of(n: u32) -> u32
     requires { ⌜ (before yearLen firstYear < n) × (n ≤ before yearLen (lastYear + 1)) ⌝ }
-    ensures { λ r. ⌜ Within yearLen n r ⌝ }
+    ensures { λ r. ⌜ InSpan yearLen n r ⌝ }
 {
     let mut y = (4 * n - 7) / 1461;
     while before_year(y + 1) < n {
@@ -122,7 +121,7 @@ fn year_of(n: u32) -> u32
 // The month that has the day n of the year y: as if each had 31 days, and then on from there, at most by one.
 fn month_of(y: u32, n: u32) -> u32
     requires { ⌜ (1 ≤ n) × (n ≤ yearLen y) ⌝ }
-    ensures { λ r. ⌜ Within (monthLen y) n r ⌝ }
+    ensures { λ r. ⌜ InSpan (monthLen y) n r ⌝ }
 {
     let mut m = (n - 1) / 31 + 1;
     while before_month(y, m + 1) < n {
@@ -244,21 +243,6 @@ fn moved_date(da: bool, s: &[u8], a: usize, b: usize, days: i32) -> Moved
     Moved::Refused
 }
 
-// Where the piece that starts at `a` ends: at a backslash, or at `stop`.
-fn piece_end(s: &[u8], a: usize, stop: usize) -> usize
-    requires { ⌜ (a ≤ stop) × (stop ≤ length (now s)) ⌝ }
-    ensures { λ r. ⌜ r ≡ a + length (firstPiece (pieces (part (now (s .entry)) a stop))) ⌝ }
-{
-    let mut b = a;
-    while b < stop {
-        if s[b] == b'\\' {
-            return b;
-        }
-        b += 1;
-    }
-    b
-}
-
 // Where the dates of a value end: before the space that pads a DA value, or at its end.
 fn dates_end(da: bool, s: &[u8], from: usize, to: usize) -> usize
     requires { ⌜ (from ≤ to) × (to ≤ length (now s)) ⌝ }
@@ -279,7 +263,7 @@ fn dates_end(da: bool, s: &[u8], from: usize, to: usize) -> usize
 // Whether the DA or DT value from `from` up to `to` is refused with 12.
 pub fn date_fault(da: bool, s: &[u8], from: usize, to: usize, days: i32) -> bool
     requires { ⌜ (from ≤ to) × (to ≤ length (now s)) ⌝ }
-    ensures { λ r. ⌜ r ≡ refused (shiftedValue da days (part (now (s .entry)) from to)) ⌝ }
+    ensures { λ r. ⌜ r ≡ isNone (shiftedValue da days (part (now (s .entry)) from to)) ⌝ }
 {
     if from == to {
         return false;
@@ -287,7 +271,7 @@ pub fn date_fault(da: bool, s: &[u8], from: usize, to: usize, days: i32) -> bool
     let stop = dates_end(da, s, from, to);
     let mut a = from;
     loop {
-        let b = piece_end(s, a, stop);
+        let b = basis::piece_end(s, a, stop);
         let m = moved_date(da, s, a, b, days);
         match m {
             Moved::Refused => return true,
@@ -356,12 +340,12 @@ pub fn put_shifted(
     let mut a = from;
     let mut p = pos;
     loop {
-        let b = piece_end(s, a, stop);
+        let b = basis::piece_end(s, a, stop);
         let e = put_piece(da, s, a, b, days, out, p);
         if b == stop {
             return buffer::copy_block(s, stop, to, out, e);
         }
-        buffer::put(out, e, b'\\');
+        buffer::put(out, e, basis::BACKSLASH);
         a = b + 1;
         p = e + 1;
     }

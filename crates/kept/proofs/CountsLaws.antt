@@ -7,39 +7,38 @@
 --     countsIn-map, countsIn-numbered    they hang on no name
 --     countsOf-numbered         so do equal contents once names are numbers
 use mathlib.Core.Path.{_≡_, refl, ap, ap₂, sym, _∙_}
+use mathlib.Core.Bool.{Bool, true, false}
 use mathlib.Core.List.{List}
 use Prim.Native.Nat.{ℕ, _+_}
 use native.Mathlib.Omega.{arith}
+use Rattle.basis.specs.Choice.{pick}
+use Rattle.basis.proofs.ChoiceLaws.{pick-map}
 use Rattle.layout.specs.Tree.{Field, value, items, Elements, nil, elem, Items, none as noItem, item}
-use Rattle.ledger.specs.Names.{learns}
-use Rattle.kept.specs.Settings.{Settings}
-use Rattle.kept.specs.Fates.{Level, Fate, removed, kept, walked, emptied, dummied, renamed, shifted, wrong, fate, below}
-use Rattle.kept.specs.Content.{Body, shown, blank, uids, walk, Content, end, keep, Walks, last, each, mapBody, mapContent, mapWalks, namesInBody, namesIn}
+use Rattle.ledger.specs.FirstMet.{learns}
+use Rattle.treatment.specs.Settings.{Settings}
+use Rattle.treatment.specs.Fates.{fate, walksInto, below}
+use Rattle.treatment.specs.declared.Level.{Level}
+use Rattle.treatment.specs.declared.Fate.{Fate}
+use Rattle.treatment.specs.declared.Fate.the-variants.{Removed, Kept, Walked, Emptied, Dummied, Renamed, Shifted, Wrong}
+use Rattle.kept.specs.Content.{Body, shown, blank, uids, walk, Content, end, keep, Walks, last, each, mapBody, mapContent, mapWalks, uidsInBody, uidsIn}
 use Rattle.kept.specs.Kept.{Uid, keptValue, keptSequence, entry, keptField, keptOf, keptItems}
 use Rattle.kept.specs.Numbering.{numberedBody, numbered, numberedWalks}
-use Rattle.kept.specs.Counts.{Counts, counts, nothing, plus, one, inside, countsField, countsOf, countsItems, total, within, fieldMet, elementsMet, itemsMet}
+use Rattle.kept.specs.Counts.{Counts, counts, nothing, plus, one, inside, countsField, countsOf, countsItems, total, fieldMet, elementsMet, itemsMet}
 
 -- ---- the four together
 
 one-total : (φ : Fate) → total (one φ) ≡ 1
-one-total removed = refl
-one-total kept = refl
-one-total walked = refl
-one-total emptied = refl
-one-total dummied = refl
-one-total renamed = refl
-one-total shifted = refl
-one-total wrong = refl
+one-total Removed = refl
+one-total Kept = refl
+one-total Walked = refl
+one-total Emptied = refl
+one-total Dummied = refl
+one-total Renamed = refl
+one-total Shifted = refl
+one-total Wrong = refl
 
-inside-total : (c : Counts) (φ : Fate) → total (inside c φ) ≡ within (total c) φ
-inside-total c removed = refl
-inside-total c kept = refl
-inside-total c walked = refl
-inside-total c emptied = refl
-inside-total c dummied = refl
-inside-total c renamed = refl
-inside-total c shifted = refl
-inside-total c wrong = refl
+inside-total : (c : Counts) (φ : Fate) → total (inside c φ) ≡ pick (walksInto φ) (total c) 0
+inside-total c φ = pick-map total (walksInto φ) c nothing
 
 plus-total : (a b : Counts) → total (plus a b) ≡ total a + total b
 plus-total a b = omega arith
@@ -50,7 +49,7 @@ mutual
   countsField-total : {L : Type 0} (f : Field L) (s : Settings) (level : Level) (φ : Fate) → total (countsField f s level φ) ≡ fieldMet f s level φ
   countsField-total (value v) s level φ = refl
   countsField-total (items is) s level φ =
-      inside-total (countsItems is s (below level)) φ ∙ ap (λ n. within n φ) (countsItems-total is s (below level))
+      inside-total (countsItems is s (below φ level)) φ ∙ ap (λ n. pick (walksInto φ) n 0) (countsItems-total is s (below φ level))
 
   pub countsOf-total : {L : Type 0} (es : Elements L) (s : Settings) (level : Level) → total (countsOf es s level) ≡ elementsMet es s level
   countsOf-total nil s level = refl
@@ -67,16 +66,17 @@ mutual
 
 -- ---- the three that kept content tells
 
+-- of what an element holds, its items being on the level given
 unfoldable mutual
   pub countsBody : {X : Type 0} → Body X → Settings → Level → Counts
   countsBody (shown v) s level = nothing
   countsBody blank s level = nothing
   countsBody (uids us) s level = nothing
-  countsBody (walk ws) s level = countsWalks ws s (below level)
+  countsBody (walk ws) s level = countsWalks ws s level
 
   pub countsIn : {X : Type 0} → Content X → Settings → Level → Counts
   countsIn end s level = nothing
-  countsIn (keep tag vr b c) s level = plus (one (fate s level tag vr)) (plus (countsBody b s level) (countsIn c s level))
+  countsIn (keep tag vr b c) s level = plus (one (fate s level tag vr)) (plus (countsBody b s (below (fate s level tag vr) level)) (countsIn c s level))
 
   pub countsWalks : {X : Type 0} → Walks X → Settings → Level → Counts
   countsWalks last s level = nothing
@@ -93,48 +93,45 @@ alike-plus a b c d e f = (ap₂ _+_ (e .0) (f .0), ap₂ _+_ (e .1) (f .1), ap�
 
 value-alike : (v : List ℕ) (s : Settings) (level : Level) (φ : Fate) → Alike nothing (countsBody (keptValue v φ) s level)
 unfolding countsIn
-value-alike v s level removed = alike-refl nothing
-value-alike v s level kept = alike-refl nothing
-value-alike v s level walked = alike-refl nothing
-value-alike v s level emptied = alike-refl nothing
-value-alike v s level dummied = alike-refl nothing
-value-alike v s level renamed = alike-refl nothing
-value-alike v s level shifted = alike-refl nothing
-value-alike v s level wrong = alike-refl nothing
+value-alike v s level Removed = alike-refl nothing
+value-alike v s level Kept = alike-refl nothing
+value-alike v s level Walked = alike-refl nothing
+value-alike v s level Emptied = alike-refl nothing
+value-alike v s level Dummied = alike-refl nothing
+value-alike v s level Renamed = alike-refl nothing
+value-alike v s level Shifted = alike-refl nothing
+value-alike v s level Wrong = alike-refl nothing
 
-sequence-alike : (a : Counts) (ws : Walks Uid) (s : Settings) (level : Level) (φ : Fate) → Alike a (countsWalks ws s (below level))
+sequence-alike : (a : Counts) (ws : Walks Uid) (s : Settings) (level : Level) (φ : Fate) → Alike a (countsWalks ws s level)
     → Alike (inside a φ) (countsBody (keptSequence ws φ) s level)
 unfolding countsIn
-sequence-alike a ws s level removed h = alike-refl nothing
-sequence-alike a ws s level kept h = alike-refl nothing
-sequence-alike a ws s level walked h = h
-sequence-alike a ws s level emptied h = alike-refl nothing
-sequence-alike a ws s level dummied h = alike-refl nothing
-sequence-alike a ws s level renamed h = alike-refl nothing
-sequence-alike a ws s level shifted h = alike-refl nothing
-sequence-alike a ws s level wrong h = alike-refl nothing
+sequence-alike a ws s level φ h = step (walksInto φ)
+  where
+    step : (b : Bool) → Alike (pick b a nothing) (countsBody (pick b (walk ws) blank) s level)
+    step true = h
+    step false = alike-refl nothing
 
 -- an entry more; one that is removed has counted nothing else
 module _ (s : Settings) (level : Level) (tag vr : ℕ) (c : Content Uid) (y : Counts) (h : Alike y (countsIn c s level)) where
-  keep-alike : (φ : Fate) → fate s level tag vr ≡ φ → (x : Counts) (b : Body Uid) → Alike x (countsBody b s level)
+  keep-alike : (φ : Fate) → fate s level tag vr ≡ φ → (x : Counts) (b : Body Uid) → Alike x (countsBody b s (below φ level))
       → Alike (plus (one φ) (plus x y)) (countsIn (keep tag vr b c) s level)
   unfolding countsIn
   keep-alike φ e x b g =
-      rw e (alike-plus (one φ) (one φ) (plus x y) (plus (countsBody b s level) (countsIn c s level)) (alike-refl (one φ))
-      (alike-plus x (countsBody b s level) y (countsIn c s level) g h))
+      rw e (alike-plus (one φ) (one φ) (plus x y) (plus (countsBody b s (below φ level)) (countsIn c s level)) (alike-refl (one φ))
+      (alike-plus x (countsBody b s (below φ level)) y (countsIn c s level) g h))
 
-  entry-alike : (φ : Fate) → fate s level tag vr ≡ φ → (x : Counts) (b : Fate → Body Uid) → Alike x (countsBody (b φ) s level)
-      → (φ ≡ removed → Alike x nothing) → Alike (plus (one φ) (plus x y)) (countsIn (entry φ tag vr b c) s level)
-  entry-alike removed e x b g z = let n = z refl in (omega (arith, n .0, h .0), omega (arith, n .1, h .1), omega (arith, n .2, h .2))
-  entry-alike kept e x b g z = keep-alike kept e x (b kept) g
-  entry-alike walked e x b g z = keep-alike walked e x (b walked) g
-  entry-alike emptied e x b g z = keep-alike emptied e x (b emptied) g
-  entry-alike dummied e x b g z = keep-alike dummied e x (b dummied) g
-  entry-alike renamed e x b g z = keep-alike renamed e x (b renamed) g
-  entry-alike shifted e x b g z = keep-alike shifted e x (b shifted) g
-  entry-alike wrong e x b g z = keep-alike wrong e x (b wrong) g
+  entry-alike : (φ : Fate) → fate s level tag vr ≡ φ → (x : Counts) (b : Fate → Body Uid) → Alike x (countsBody (b φ) s (below φ level))
+      → (φ ≡ Removed → Alike x nothing) → Alike (plus (one φ) (plus x y)) (countsIn (entry φ tag vr b c) s level)
+  entry-alike Removed e x b g z = let n = z refl in (omega (arith, n .0, h .0), omega (arith, n .1, h .1), omega (arith, n .2, h .2))
+  entry-alike Kept e x b g z = keep-alike Kept e x (b Kept) g
+  entry-alike Walked e x b g z = keep-alike Walked e x (b Walked) g
+  entry-alike Emptied e x b g z = keep-alike Emptied e x (b Emptied) g
+  entry-alike Dummied e x b g z = keep-alike Dummied e x (b Dummied) g
+  entry-alike Renamed e x b g z = keep-alike Renamed e x (b Renamed) g
+  entry-alike Shifted e x b g z = keep-alike Shifted e x (b Shifted) g
+  entry-alike Wrong e x b g z = keep-alike Wrong e x (b Wrong) g
 
-field-removed : {L : Type 0} (f : Field L) (s : Settings) (level : Level) (φ : Fate) → φ ≡ removed → Alike (countsField f s level φ) nothing
+field-removed : {L : Type 0} (f : Field L) (s : Settings) (level : Level) (φ : Fate) → φ ≡ Removed → Alike (countsField f s level φ) nothing
 unfolding countsOf
 field-removed (value v) s level φ e = alike-refl nothing
 field-removed (items is) s level φ e = rw e (alike-refl nothing)
@@ -143,10 +140,10 @@ mutual
   unfolding countsOf countsIn keptOf
 
   countsField-kept : {L : Type 0} (f : Field L) (s : Settings) (level : Level) (φ : Fate)
-      → Alike (countsField f s level φ) (countsBody (keptField f s level φ) s level)
-  countsField-kept (value v) s level φ = value-alike v s level φ
+      → Alike (countsField f s level φ) (countsBody (keptField f s level φ) s (below φ level))
+  countsField-kept (value v) s level φ = value-alike v s (below φ level) φ
   countsField-kept (items is) s level φ =
-      sequence-alike (countsItems is s (below level)) (keptItems is s (below level)) s level φ (countsItems-kept is s (below level))
+      sequence-alike (countsItems is s (below φ level)) (keptItems is s (below φ level)) s (below φ level) φ (countsItems-kept is s (below φ level))
 
   pub countsOf-kept : {L : Type 0} (es : Elements L) (s : Settings) (level : Level) → Alike (countsOf es s level) (countsIn (keptOf es s level) s level)
   countsOf-kept nil s level = alike-refl nothing
@@ -186,12 +183,12 @@ module _ {X Y : Type 0} (f : X → Y) where
     countsBody-map (shown v) s level = refl
     countsBody-map blank s level = refl
     countsBody-map (uids us) s level = refl
-    countsBody-map (walk ws) s level = countsWalks-map ws s (below level)
+    countsBody-map (walk ws) s level = countsWalks-map ws s level
 
     pub countsIn-map : (c : Content X) (s : Settings) (level : Level) → countsIn (mapContent f c) s level ≡ countsIn c s level
     countsIn-map end s level = refl
     countsIn-map (keep tag vr b c) s level =
-        ap₂ (λ (x y : Counts). plus (one (fate s level tag vr)) (plus x y)) (countsBody-map b s level) (countsIn-map c s level)
+        ap₂ (λ (x y : Counts). plus (one (fate s level tag vr)) (plus x y)) (countsBody-map b s (below (fate s level tag vr) level)) (countsIn-map c s level)
 
     countsWalks-map : (ws : Walks X) (s : Settings) (level : Level) → countsWalks (mapWalks f ws) s level ≡ countsWalks ws s level
     countsWalks-map last s level = refl
@@ -205,17 +202,17 @@ module _ {X : Type 0} (same : Discrete X) where
     countsBody-numbered (shown v) l s level = refl
     countsBody-numbered blank l s level = refl
     countsBody-numbered (uids us) l s level = refl
-    countsBody-numbered (walk ws) l s level = countsWalks-numbered ws l s (below level)
+    countsBody-numbered (walk ws) l s level = countsWalks-numbered ws l s level
 
     pub countsIn-numbered : (c : Content X) (l : List X) (s : Settings) (level : Level) → countsIn (numbered same l c) s level ≡ countsIn c s level
     countsIn-numbered end l s level = refl
     countsIn-numbered (keep tag vr b c) l s level =
-        ap₂ (λ (x y : Counts). plus (one (fate s level tag vr)) (plus x y)) (countsBody-numbered b l s level)
-        (countsIn-numbered c (learns same l (namesInBody b)) s level)
+        ap₂ (λ (x y : Counts). plus (one (fate s level tag vr)) (plus x y)) (countsBody-numbered b l s (below (fate s level tag vr) level))
+        (countsIn-numbered c (learns same l (uidsInBody b)) s level)
 
     countsWalks-numbered : (ws : Walks X) (l : List X) (s : Settings) (level : Level) → countsWalks (numberedWalks same l ws) s level ≡ countsWalks ws s level
     countsWalks-numbered last l s level = refl
-    countsWalks-numbered (each c ws) l s level = ap₂ plus (countsIn-numbered c l s level) (countsWalks-numbered ws (learns same l (namesIn c)) s level)
+    countsWalks-numbered (each c ws) l s level = ap₂ plus (countsIn-numbered c l s level) (countsWalks-numbered ws (learns same l (uidsIn c)) s level)
 
 module _ (same : Discrete Uid) where
   -- what is written decides numbered content, and so the three counts

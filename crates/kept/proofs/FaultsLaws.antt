@@ -8,13 +8,17 @@ use mathlib.Core.List.{List}
 use mathlib.Core.Option.{Option, none, some}
 use Prim.Native.Nat.{ℕ}
 use lib.Dec.{eqb}
-use Rattle.basis.specs.Choice.{pick}
+use Rattle.basis.specs.Choice.{pick, isNone}
+use Rattle.basis.proofs.ChoiceLaws.{pick-case}
 use Rattle.vr.specs.Names.{DA}
 use Rattle.layout.specs.Tree.{Field, value, items, Elements, nil, elem, Items, none as noItem, item, Place}
 use Rattle.uid.specs.Value.{uidsFault}
-use Rattle.calendar.specs.Values.{shiftedValue, refused}
-use Rattle.kept.specs.Settings.{Settings}
-use Rattle.kept.specs.Fates.{Level, Fate, removed, kept, walked, emptied, dummied, renamed, shifted, wrong, fate, below}
+use Rattle.calendar.specs.Values.{shiftedValue}
+use Rattle.treatment.specs.Settings.{Settings}
+use Rattle.treatment.specs.Fates.{fate, walksInto, below}
+use Rattle.treatment.specs.declared.Level.{Level}
+use Rattle.treatment.specs.declared.Fate.{Fate}
+use Rattle.treatment.specs.declared.Fate.the-variants.{Removed, Kept, Walked, Emptied, Dummied, Renamed, Shifted, Wrong}
 use Rattle.kept.specs.Faults.{Fault, valueFault, at, first, sequenceFault, fieldFault, firstFault, itemsFault}
 
 abbrev pub Eleven : Option Fault → Type 0
@@ -32,14 +36,14 @@ if-date true offset = inr refl
 if-date false offset = tt
 
 value-eleven : (s : Settings) (φ : Fate) (vr : ℕ) (v : List ℕ) (offset : ℕ) → Eleven (at (valueFault s φ vr v) offset)
-value-eleven s removed vr v offset = tt
-value-eleven s kept vr v offset = tt
-value-eleven s walked vr v offset = tt
-value-eleven s emptied vr v offset = tt
-value-eleven s dummied vr v offset = tt
-value-eleven s renamed vr v offset = if-fault (uidsFault v) offset
-value-eleven s shifted vr v offset = if-date (refused (shiftedValue (eqb vr DA) (s .shift) v)) offset
-value-eleven s wrong vr v offset = inl refl
+value-eleven s Removed vr v offset = tt
+value-eleven s Kept vr v offset = tt
+value-eleven s Walked vr v offset = tt
+value-eleven s Emptied vr v offset = tt
+value-eleven s Dummied vr v offset = tt
+value-eleven s Renamed vr v offset = if-fault (uidsFault v) offset
+value-eleven s Shifted vr v offset = if-date (isNone (shiftedValue (eqb vr DA) (s .shift) v)) offset
+value-eleven s Wrong vr v offset = inl refl
 
 -- ---- firstFault
 
@@ -47,15 +51,8 @@ first-eleven : (x y : Option Fault) → Eleven x → Eleven y → Eleven (first 
 first-eleven none y p q = q
 first-eleven (some f) y p q = p
 
-sequence-eleven : (x : Option Fault) (φ : Fate) (offset : ℕ) → Eleven x → Eleven (sequenceFault x φ offset)
-sequence-eleven x removed offset p = tt
-sequence-eleven x kept offset p = tt
-sequence-eleven x walked offset p = p
-sequence-eleven x emptied offset p = tt
-sequence-eleven x dummied offset p = tt
-sequence-eleven x renamed offset p = tt
-sequence-eleven x shifted offset p = tt
-sequence-eleven x wrong offset p = inl refl
+sequence-eleven : (x : Option Fault) (φ : Fate) → Eleven x → Eleven (sequenceFault x φ)
+sequence-eleven x φ p = pick-case Eleven (walksInto φ) x none (λ _. p) (λ _. tt)
 
 mutual
   unfolding fieldFault firstFault itemsFault
@@ -63,7 +60,7 @@ mutual
   field-eleven : (f : Field Place) (s : Settings) (level : Level) (φ : Fate) (vr offset : ℕ) → Eleven (fieldFault f s level φ vr offset)
   field-eleven (value v) s level φ vr offset = value-eleven s φ vr v offset
   field-eleven (items is) s level φ vr offset =
-      sequence-eleven (itemsFault is s (below level)) φ offset (items-eleven is s (below level))
+      sequence-eleven (itemsFault is s (below φ level)) φ (items-eleven is s (below φ level))
 
   pub firstFault-number : (es : Elements Place) (s : Settings) (level : Level) → Eleven (firstFault es s level)
   firstFault-number nil s level = tt

@@ -1,6 +1,8 @@
 -- Laws of `specs/Fillers.antt`. No contract cites this file. Assumes nothing.
 --     spaced-even, spaced-length     what is spaced has an even length, at most one more
---     room-value, room-known, room-other    a known VR other than SQ has room for 65,535 bytes; a VR with room is known, and is not SQ
+--     lengthsBelow-value, lengthsBelow-known, lengthsBelow-other
+--                                a known VR other than SQ takes 65,535 bytes;
+--                                a VR that takes any length is known, and is not SQ
 --     listed-length                  a list value has at most 64 bytes
 --     value-made                     a short value, spaced, fits every known VR other than SQ
 --     emptiedAs-made, dummiedAs-made what stands in the place of a value is well-made, one item deep
@@ -17,16 +19,16 @@ use borrow.Author.Tests.{eqb-true, eqb-false, ne-eqb}
 use Rattle.basis.specs.Choice.{pick, among}
 use Rattle.basis.proofs.ChoiceLaws.{pick-case}
 use Rattle.vr.specs.Names.{SQ}
-use Rattle.vr.specs.Vr.{known, long, kindOf, servedByLists, dummyOf}
+use Rattle.vr.specs.Vr.{allVrs, long, kindOf, servedByLists, dummyOf}
 use Rattle.vr.specs.declared.Kind.the-variants.{Short, Long, Sequence}
-use Rattle.vr.proofs.VrLaws.{kindOf-known, dummyOf-short}
+use Rattle.vr.proofs.VrLaws.{kindOf-allVrs, dummyOf-short}
 use Rattle.layout.specs.Tree.{value, items, nil, none as noItem, item}
-use Rattle.layout.specs.Made.{room, Made, MadeField}
-use Rattle.layout.proofs.LiesLaws.{room-unknown, room-sequence, room-short, room-long}
+use Rattle.layout.specs.Made.{lengthsBelow, Made, MadeField}
+use Rattle.layout.proofs.LiesLaws.{lengthsBelow-unknown, lengthsBelow-sequence, lengthsBelow-short, lengthsBelow-long}
 use Rattle.lists.specs.Lists.{mostValue}
 use Rattle.lists.specs.Lookup.{asked}
 use Rattle.lists.proofs.LookupLaws.{asked-length}
-use Rattle.kept.specs.Settings.{Settings}
+use Rattle.treatment.specs.Settings.{Settings}
 use Rattle.kept.specs.Fillers.{spaced, listed, or, emptiedAs, dummiedAs}
 
 -- ---- spaced
@@ -43,9 +45,9 @@ spaced-length t =
     pick-case (λ u. length u ≤ length t + 1) (eqb (length t % 2) 0) t (t ++ 0x20 ∷ []) (λ e. omega arith)
     (λ e. omega (arith, length-append t (0x20 ∷ [])))
 
--- ---- room, of `layout`
+-- ---- lengthsBelow, of `layout`
 
-kindOf-value : (vr : ℕ) → among vr known ≡ true → vr ≢ SQ → (kindOf vr ≡ Long) ⊎ (kindOf vr ≡ Short)
+kindOf-value : (vr : ℕ) → among vr allVrs ≡ true → vr ≢ SQ → (kindOf vr ≡ Long) ⊎ (kindOf vr ≡ Short)
 unfolding kindOf
 kindOf-value vr is n = rw (ne-eqb vr SQ n, is) (step (among vr long))
   where
@@ -53,18 +55,18 @@ kindOf-value vr is n = rw (ne-eqb vr SQ n, is) (step (among vr long))
     step true = inl refl
     step false = inr refl
 
-pub room-value : (vr : ℕ) → among vr known ≡ true → vr ≢ SQ → 65536 ≤ room vr
-room-value vr is n = ⊎-elim (λ e. rw (room-long vr e) (omega arith)) (λ e. rw (room-short vr e) (omega arith)) (kindOf-value vr is n)
+pub lengthsBelow-value : (vr : ℕ) → among vr allVrs ≡ true → vr ≢ SQ → 65536 ≤ lengthsBelow vr
+lengthsBelow-value vr is n = ⊎-elim (λ e. rw (lengthsBelow-long vr e) (omega arith)) (λ e. rw (lengthsBelow-short vr e) (omega arith)) (kindOf-value vr is n)
 
-pub room-known : (vr n : ℕ) → n < room vr → among vr known ≡ true
-room-known vr n h = kindOf-known vr (λ e. let z : n < 0 = rw (room-unknown vr e) at h in omega arith)
+pub lengthsBelow-known : (vr n : ℕ) → n < lengthsBelow vr → among vr allVrs ≡ true
+lengthsBelow-known vr n h = kindOf-allVrs vr (λ e. let z : n < 0 = rw (lengthsBelow-unknown vr e) at h in omega arith)
 
 sq-sequence : kindOf SQ ≡ Sequence
 unfolding kindOf
 sq-sequence = refl
 
-pub room-other : (vr n : ℕ) → n < room vr → vr ≢ SQ
-room-other vr n h e = let z : n < 0 = rw (ap room e ∙ room-sequence SQ sq-sequence) at h in omega arith
+pub lengthsBelow-other : (vr n : ℕ) → n < lengthsBelow vr → vr ≢ SQ
+lengthsBelow-other vr n h e = let z : n < 0 = rw (ap lengthsBelow e ∙ lengthsBelow-sequence SQ sq-sequence) at h in omega arith
 
 -- ---- listed
 
@@ -82,11 +84,11 @@ or-length (some v) t n f h = f v refl
 
 -- ---- emptiedAs, dummiedAs
 
-pub value-made : (depth vr : ℕ) (t : List ℕ) → among vr known ≡ true → vr ≢ SQ → length t ≤ mostValue → MadeField {L = Unit {0}} depth vr (value (spaced t))
+pub value-made : (depth vr : ℕ) (t : List ℕ) → among vr allVrs ≡ true → vr ≢ SQ → length t ≤ mostValue → MadeField {L = Unit {0}} depth vr (value (spaced t))
 unfolding Made
-value-made depth vr t is n h = (spaced-even t, omega (arith, spaced-length t, room-value vr is n))
+value-made depth vr t is n h = (spaced-even t, omega (arith, spaced-length t, lengthsBelow-value vr is n))
 
-module _ (s : Settings) (tag vr depth : ℕ) (is : among vr known ≡ true) where
+module _ (s : Settings) (tag vr depth : ℕ) (is : among vr allVrs ≡ true) where
   pub emptiedAs-made : MadeField depth vr (emptiedAs s tag vr)
   unfolding emptiedAs Made
   emptiedAs-made =

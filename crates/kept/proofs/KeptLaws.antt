@@ -12,28 +12,33 @@ use Prim.Native.Nat.{ℕ, zero, suc, _+_, _-_, _%_, _≤_, _<_}
 use native.Mathlib.Omega.{arith}
 use lib.Dec.{eqb}
 use lib.ListN.{length}
-use Rattle.basis.specs.Choice.{pick, among}
+use Rattle.basis.specs.Choice.{pick, among, isNone}
+use Rattle.refusals.specs.Refusals.{badUids}
 use Rattle.vr.specs.Names.{DA, SQ}
-use Rattle.vr.specs.Vr.{known}
+use Rattle.vr.specs.Vr.{allVrs}
 use Rattle.layout.specs.Tree.{Field, value, items, Elements, nil, elem, Items, none as noItem, item, Place}
 use Rattle.layout.specs.Heads.{allowed}
-use Rattle.layout.specs.Made.{room, Made, MadeField, MadeItems}
+use Rattle.layout.specs.Made.{lengthsBelow, Made, MadeField, MadeItems}
 use Rattle.uid.specs.Uid.{isRoot}
 use Rattle.uid.specs.Value.{mostUids, uidsFault}
 use Rattle.uid.proofs.ValueLaws.{uidsOf-found, uidsOf-are}
-use Rattle.ledger.specs.Names.{learns}
+use Rattle.ledger.specs.FirstMet.{learns}
 use Rattle.ledger.specs.Slots.{mostSlots}
-use Rattle.ledger.proofs.NamesLaws.{learns-append, learns-length, numbers-length, numbers-le}
-use Rattle.calendar.specs.Values.{shiftedValue, refused}
-use Rattle.kept.specs.Settings.{Settings}
-use Rattle.kept.specs.Fates.{Level, top, Fate, removed, kept, walked, emptied, dummied, renamed, shifted, wrong, fate, below}
-use Rattle.kept.specs.Content.{Body, Content, keep, Walks, each, namesInBody, namesIn, namesInWalks}
-use Rattle.kept.specs.Kept.{Uid, found, uidsIn, keptValue, keptSequence, entry, keptField, keptOf, keptItems}
+use Rattle.ledger.proofs.FirstMetLaws.{learns-append, learns-length, numbers-length, numbers-le}
+use Rattle.calendar.specs.Values.{shiftedValue}
+use Rattle.treatment.specs.Settings.{Settings}
+use Rattle.treatment.specs.Fates.{fate, below}
+use Rattle.treatment.specs.declared.Level.{Level}
+use Rattle.treatment.specs.declared.Level.the-variants.{Top}
+use Rattle.treatment.specs.declared.Fate.{Fate}
+use Rattle.treatment.specs.declared.Fate.the-variants.{Removed, Kept, Walked, Emptied, Dummied, Renamed, Shifted, Wrong}
+use Rattle.kept.specs.Content.{Body, Content, keep, Walks, each, uidsInBody, uidsIn, uidsInWalks}
+use Rattle.kept.specs.Kept.{Uid, orNone, heldUids, keptValue, keptSequence, entry, keptField, keptOf, keptItems}
 use Rattle.kept.specs.Numbering.{numberedBody, numbered, numberedWalks}
 use Rattle.kept.specs.Written.{written}
 use Rattle.kept.specs.Faults.{Fault, valueFault, at as faultAt, first, sequenceFault, fieldFault, firstFault, itemsFault}
-use Rattle.kept.proofs.FatesLaws.{fate-walked, fate-renamed, fate-shifted, fate-kept, fate-wrong}
-use Rattle.kept.proofs.FillersLaws.{room-known, room-other}
+use Rattle.treatment.proofs.FatesLaws.{fate-walked, fate-renamed, fate-shifted, fate-kept, fate-wrong}
+use Rattle.kept.proofs.FillersLaws.{lengthsBelow-known, lengthsBelow-other}
 use Rattle.kept.proofs.WrittenLaws.{NumberedBody, Numbered, NumberedWalks, numbered-lower, written-inj}
 
 -- ---- what no fault says
@@ -50,33 +55,33 @@ pub unpicked : (b : Bool) (n : ℕ) → 0 < n → pick b n 0 ≡ 0 → b ≡ fal
 unpicked true n h e = absurd (omega arith)
 unpicked false n h e = refl
 
-renamed-few : (s : Settings) (vr : ℕ) (v : List ℕ) → valueFault s renamed vr v ≡ 0 → length (uidsIn v) ≤ mostUids
+renamed-few : (s : Settings) (vr : ℕ) (v : List ℕ) → valueFault s Renamed vr v ≡ 0 → length (heldUids v) ≤ mostUids
 renamed-few s vr v e =
-    let r = uidsOf-found v (unpicked (uidsFault v) 11 (omega arith) e) in
-    let q : uidsIn v ≡ r .0 = ap found (r .1) in
+    let r = uidsOf-found v (unpicked (uidsFault v) badUids (omega arith) e) in
+    let q : heldUids v ≡ r .0 = ap orNone (r .1) in
     rw q (uidsOf-are v (r .0) (r .1) .few)
 
-not-refused : (o : Option (List ℕ)) → refused o ≡ false → (x : List ℕ) × (o ≡ some x)
+not-refused : (o : Option (List ℕ)) → isNone o ≡ false → (x : List ℕ) × (o ≡ some x)
 not-refused none e = absurd (false≢true (sym e))
 not-refused (some x) e = (x, refl)
 
-shifted-good : (s : Settings) (vr : ℕ) (v : List ℕ) → valueFault s shifted vr v ≡ 0 → (x : List ℕ) × (shiftedValue (eqb vr DA) (s .shift) v ≡ some x)
+shifted-good : (s : Settings) (vr : ℕ) (v : List ℕ) → valueFault s Shifted vr v ≡ 0 → (x : List ℕ) × (shiftedValue (eqb vr DA) (s .shift) v ≡ some x)
 shifted-good s vr v e =
-    not-refused (shiftedValue (eqb vr DA) (s .shift) v) (unpicked (refused (shiftedValue (eqb vr DA) (s .shift) v)) 12 (omega arith) e)
+    not-refused (shiftedValue (eqb vr DA) (s .shift) v) (unpicked (isNone (shiftedValue (eqb vr DA) (s .shift) v)) 12 (omega arith) e)
 
 -- ---- entries
 
 abbrev pub Stays : Fate → Type 0
-Stays removed = ⊥
-Stays kept = Unit {0}
-Stays walked = Unit {0}
-Stays emptied = Unit {0}
-Stays dummied = Unit {0}
-Stays renamed = Unit {0}
-Stays shifted = Unit {0}
-Stays wrong = Unit {0}
+Stays Removed = ⊥
+Stays Kept = Unit {0}
+Stays Walked = Unit {0}
+Stays Emptied = Unit {0}
+Stays Dummied = Unit {0}
+Stays Renamed = Unit {0}
+Stays Shifted = Unit {0}
+Stays Wrong = Unit {0}
 
-sq-known : among SQ known ≡ true
+sq-known : among SQ allVrs ≡ true
 unfolding among
 sq-known = refl
 
@@ -91,67 +96,67 @@ module _ (same : Discrete Uid) where
       (omega (arith, r, learns-length same (learns same l us) ws), r)
 
   module _ (s : Settings) (level : Level) (depth tag vr : ℕ) (l : List Uid) where
-    value-fits : (v : List ℕ) (φ : Fate) → fate s level tag vr ≡ φ → Stays φ → length v % 2 ≡ 0 → length v < room vr → valueFault s φ vr v ≡ 0
-        → Room l (namesInBody (keptValue v φ)) → NumberedBody (numberedBody same l (keptValue v φ)) s level depth tag vr
-    unfolding Numbered numbered namesIn
-    value-fits v removed e p even fits ok r = absurd p
-    value-fits v kept e p even fits ok r = (rw e tt, even, fits)
-    value-fits v walked e p even fits ok r = absurd (room-other vr (length v) fits (fate-walked s level tag vr e))
-    value-fits v emptied e p even fits ok r = (rw e tt, room-known vr (length v) fits)
-    value-fits v dummied e p even fits ok r = (rw e tt, room-known vr (length v) fits)
-    value-fits v renamed e p even fits ok r =
-        (e, omega (arith, numbers-length same l (uidsIn v), renamed-few s vr v ok), λ n m. omega (arith, r, numbers-le same l (uidsIn v) n m))
-    value-fits v shifted e p even fits ok r = (rw e (shifted-good s vr v ok), even, fits)
-    value-fits v wrong e p even fits ok r = absurd (omega arith)
+    value-fits : (v : List ℕ) (φ : Fate) → fate s level tag vr ≡ φ → Stays φ → length v % 2 ≡ 0 → length v < lengthsBelow vr → valueFault s φ vr v ≡ 0
+        → Room l (uidsInBody (keptValue v φ)) → NumberedBody (numberedBody same l (keptValue v φ)) s level depth tag vr
+    unfolding Numbered numbered uidsIn
+    value-fits v Removed e p even fits ok r = absurd p
+    value-fits v Kept e p even fits ok r = (rw e tt, even, fits)
+    value-fits v Walked e p even fits ok r = absurd (lengthsBelow-other vr (length v) fits (fate-walked s level tag vr e))
+    value-fits v Emptied e p even fits ok r = (rw e tt, lengthsBelow-known vr (length v) fits)
+    value-fits v Dummied e p even fits ok r = (rw e tt, lengthsBelow-known vr (length v) fits)
+    value-fits v Renamed e p even fits ok r =
+        (e, omega (arith, numbers-length same l (heldUids v), renamed-few s vr v ok), λ n m. omega (arith, r, numbers-le same l (heldUids v) n m))
+    value-fits v Shifted e p even fits ok r = (rw e (shifted-good s vr v ok), even, fits)
+    value-fits v Wrong e p even fits ok r = absurd (omega arith)
 
-    sequence-fits : (ws : Walks Uid) (x : Option Fault) (offset : ℕ) (φ : Fate) → fate s level tag vr ≡ φ → Stays φ → vr ≡ SQ
-        → sequenceFault x φ offset ≡ none → (x ≡ none → Room l (namesInWalks ws) → NumberedWalks (numberedWalks same l ws) s (below level) depth)
-        → Room l (namesInBody (keptSequence ws φ)) → NumberedBody (numberedBody same l (keptSequence ws φ)) s level depth tag vr
-    unfolding Numbered numbered namesIn
-    sequence-fits ws x offset removed e p q ok inside r = absurd p
-    sequence-fits ws x offset kept e p q ok inside r = absurd (fate-kept s level tag vr e q)
-    sequence-fits ws x offset walked e p q ok inside r = (e, inside ok r)
-    sequence-fits ws x offset emptied e p q ok inside r = (rw e tt, rw q sq-known)
-    sequence-fits ws x offset dummied e p q ok inside r = (rw e tt, rw q sq-known)
-    sequence-fits ws x offset renamed e p q ok inside r = absurd (omega (arith, fate-renamed s level tag vr e))
-    sequence-fits ws x offset shifted e p q ok inside r = absurd (⊎-elim (λ a. omega arith) (λ a. omega arith) (fate-shifted s level tag vr e))
-    sequence-fits ws x offset wrong e p q ok inside r = absurd (fate-wrong s level tag vr e .1 q)
+    sequence-fits : (ws : Walks Uid) (x : Option Fault) (φ : Fate) → fate s level tag vr ≡ φ → Stays φ → vr ≡ SQ
+        → sequenceFault x φ ≡ none → (x ≡ none → Room l (uidsInWalks ws) → NumberedWalks (numberedWalks same l ws) s (below φ level) depth)
+        → Room l (uidsInBody (keptSequence ws φ)) → NumberedBody (numberedBody same l (keptSequence ws φ)) s level depth tag vr
+    unfolding Numbered numbered uidsIn
+    sequence-fits ws x Removed e p q ok inside r = absurd p
+    sequence-fits ws x Kept e p q ok inside r = absurd (fate-kept s level tag vr e q)
+    sequence-fits ws x Walked e p q ok inside r = (e, rw e (inside ok r))
+    sequence-fits ws x Emptied e p q ok inside r = (rw e tt, rw q sq-known)
+    sequence-fits ws x Dummied e p q ok inside r = (rw e tt, rw q sq-known)
+    sequence-fits ws x Renamed e p q ok inside r = absurd (omega (arith, fate-renamed s level tag vr e))
+    sequence-fits ws x Shifted e p q ok inside r = absurd (⊎-elim (λ a. omega arith) (λ a. omega arith) (fate-shifted s level tag vr e))
+    sequence-fits ws x Wrong e p q ok inside r = absurd (fate-wrong s level tag vr e .1 q)
 
   module _ (s : Settings) (level : Level) (depth low tag vr : ℕ) (l : List Uid) (h : low ≤ tag) (may : allowed tag ≡ true) (c : Content Uid)
-      (next : (k : List Uid) → Room k (namesIn c) → Numbered (numbered same k c) s level depth (tag + 1)) where
-    keep-fits : (b : Body Uid) → (Room l (namesInBody b) → NumberedBody (numberedBody same l b) s level depth tag vr)
-        → Room l (namesIn (keep tag vr b c)) → Numbered (numbered same l (keep tag vr b c)) s level depth low
-    unfolding Numbered numbered namesIn
-    keep-fits b body r = let p = room-parts l (namesInBody b) (namesIn c) r in (h, may, body (p .0), next (learns same l (namesInBody b)) (p .1))
+      (next : (k : List Uid) → Room k (uidsIn c) → Numbered (numbered same k c) s level depth (tag + 1)) where
+    keep-fits : (b : Body Uid) → (Room l (uidsInBody b) → NumberedBody (numberedBody same l b) s level depth tag vr)
+        → Room l (uidsIn (keep tag vr b c)) → Numbered (numbered same l (keep tag vr b c)) s level depth low
+    unfolding Numbered numbered uidsIn
+    keep-fits b body r = let p = room-parts l (uidsInBody b) (uidsIn c) r in (h, may, body (p .0), next (learns same l (uidsInBody b)) (p .1))
 
-    entry-fits : (φ : Fate) (b : Fate → Body Uid) → (Stays φ → Room l (namesInBody (b φ)) → NumberedBody (numberedBody same l (b φ)) s level depth tag vr)
-        → Room l (namesIn (entry φ tag vr b c)) → Numbered (numbered same l (entry φ tag vr b c)) s level depth low
-    entry-fits removed b body r = numbered-lower (numbered same l c) s level depth (tag + 1) low (omega arith) (next l r)
-    entry-fits kept b body r = keep-fits (b kept) (body tt) r
-    entry-fits walked b body r = keep-fits (b walked) (body tt) r
-    entry-fits emptied b body r = keep-fits (b emptied) (body tt) r
-    entry-fits dummied b body r = keep-fits (b dummied) (body tt) r
-    entry-fits renamed b body r = keep-fits (b renamed) (body tt) r
-    entry-fits shifted b body r = keep-fits (b shifted) (body tt) r
-    entry-fits wrong b body r = keep-fits (b wrong) (body tt) r
+    entry-fits : (φ : Fate) (b : Fate → Body Uid) → (Stays φ → Room l (uidsInBody (b φ)) → NumberedBody (numberedBody same l (b φ)) s level depth tag vr)
+        → Room l (uidsIn (entry φ tag vr b c)) → Numbered (numbered same l (entry φ tag vr b c)) s level depth low
+    entry-fits Removed b body r = numbered-lower (numbered same l c) s level depth (tag + 1) low (omega arith) (next l r)
+    entry-fits Kept b body r = keep-fits (b Kept) (body tt) r
+    entry-fits Walked b body r = keep-fits (b Walked) (body tt) r
+    entry-fits Emptied b body r = keep-fits (b Emptied) (body tt) r
+    entry-fits Dummied b body r = keep-fits (b Dummied) (body tt) r
+    entry-fits Renamed b body r = keep-fits (b Renamed) (body tt) r
+    entry-fits Shifted b body r = keep-fits (b Shifted) (body tt) r
+    entry-fits Wrong b body r = keep-fits (b Wrong) (body tt) r
 
   -- ---- keptOf
 
   mutual
-    unfolding Numbered numbered namesIn keptOf Made firstFault
+    unfolding Numbered numbered uidsIn keptOf Made firstFault
 
     field-numbered : (f : Field Place) (s : Settings) (level : Level) (depth tag vr offset : ℕ) (l : List Uid) → Stays (fate s level tag vr)
         → MadeField depth vr f → fieldFault f s level (fate s level tag vr) vr offset ≡ none
-        → Room l (namesInBody (keptField f s level (fate s level tag vr)))
+        → Room l (uidsInBody (keptField f s level (fate s level tag vr)))
         → NumberedBody (numberedBody same l (keptField f s level (fate s level tag vr))) s level depth tag vr
     field-numbered (value v) s level depth tag vr offset l p m ok r =
         value-fits s level depth tag vr l v (fate s level tag vr) refl p (m .0) (m .1) (at-none (valueFault s (fate s level tag vr) vr v) offset ok) r
     field-numbered (items is) s level depth tag vr offset l p m ok r =
-        sequence-fits s level depth tag vr l (keptItems is s (below level)) (itemsFault is s (below level)) offset (fate s level tag vr) refl p (m .0) ok
-        (λ fine q. items-numbered is s (below level) depth l (m .1) fine q) r
+        sequence-fits s level depth tag vr l (keptItems is s (below (fate s level tag vr) level)) (itemsFault is s (below (fate s level tag vr) level))
+        (fate s level tag vr) refl p (m .0) ok (λ fine q. items-numbered is s (below (fate s level tag vr) level) depth l (m .1) fine q) r
 
     pub kept-numbered : (es : Elements Place) (s : Settings) (level : Level) (depth low : ℕ) (l : List Uid) → Made depth low es
-        → firstFault es s level ≡ none → length (learns same l (namesIn (keptOf es s level))) ≤ mostSlots
+        → firstFault es s level ≡ none → length (learns same l (uidsIn (keptOf es s level))) ≤ mostSlots
         → Numbered (numbered same l (keptOf es s level)) s level depth low
     kept-numbered nil s level depth low l m ok r = tt
     kept-numbered (elem p tag vr f es) s level depth low l m ok r =
@@ -161,24 +166,24 @@ module _ (same : Discrete Uid) where
         (λ stays q. field-numbered f s level depth tag vr (p .at) l stays (m .2) (o .0) q) r
 
     items-numbered : (is : Items Place) (s : Settings) (level : Level) (depth : ℕ) (l : List Uid) → MadeItems depth is → itemsFault is s level ≡ none
-        → Room l (namesInWalks (keptItems is s level)) → NumberedWalks (numberedWalks same l (keptItems is s level)) s level depth
+        → Room l (uidsInWalks (keptItems is s level)) → NumberedWalks (numberedWalks same l (keptItems is s level)) s level depth
     items-numbered noItem s level depth l m ok r = tt
     items-numbered (item es is) s level depth l m ok r =
         let o = first-none (firstFault es s level) (itemsFault is s level) ok in
-        let q = room-parts l (namesIn (keptOf es s level)) (namesInWalks (keptItems is s level)) r in (
+        let q = room-parts l (uidsIn (keptOf es s level)) (uidsInWalks (keptItems is s level)) r in (
           m .0,
           kept-numbered es s level (depth - 1) 0 l (m .1) (o .0) (q .0),
-          items-numbered is s level depth (learns same l (namesIn (keptOf es s level))) (m .2) (o .1) (q .1),
+          items-numbered is s level depth (learns same l (uidsIn (keptOf es s level))) (m .2) (o .1) (q .1),
         )
 
   -- ---- what is written
 
   -- THEOREM: what is written of two data sets that are accepted decides their kept contents, each name its number
   pub written-kept : (es fs : Elements Place) (s : Settings) (depth : ℕ) (l k : List Uid) → isRoot (s .root) ≡ true → Made depth 0 es → Made depth 0 fs
-      → firstFault es s top ≡ none → firstFault fs s top ≡ none
-      → length (learns same l (namesIn (keptOf es s top))) ≤ mostSlots → length (learns same k (namesIn (keptOf fs s top))) ≤ mostSlots
-      → written s (numbered same l (keptOf es s top)) ≡ written s (numbered same k (keptOf fs s top))
-      → numbered same l (keptOf es s top) ≡ numbered same k (keptOf fs s top)
+      → firstFault es s Top ≡ none → firstFault fs s Top ≡ none
+      → length (learns same l (uidsIn (keptOf es s Top))) ≤ mostSlots → length (learns same k (uidsIn (keptOf fs s Top))) ≤ mostSlots
+      → written s (numbered same l (keptOf es s Top)) ≡ written s (numbered same k (keptOf fs s Top))
+      → numbered same l (keptOf es s Top) ≡ numbered same k (keptOf fs s Top)
   written-kept es fs s depth l k good m n ok fine r q e =
-      written-inj s good depth (numbered same l (keptOf es s top)) (numbered same k (keptOf fs s top))
-      (kept-numbered es s top depth 0 l m ok r) (kept-numbered fs s top depth 0 k n fine q) e
+      written-inj s good depth (numbered same l (keptOf es s Top)) (numbered same k (keptOf fs s Top))
+      (kept-numbered es s Top depth 0 l m ok r) (kept-numbered fs s Top depth 0 k n fine q) e

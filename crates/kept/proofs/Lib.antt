@@ -1,9 +1,8 @@
 pub mod TieLaws
-pub mod FatesLaws
 pub mod ContentLaws
 pub mod NumberingLaws
 pub mod FillersLaws
-pub mod MarksLaws
+pub mod MarkersLaws
 pub mod WrittenLaws
 pub mod KeptLaws
 pub mod CountsLaws

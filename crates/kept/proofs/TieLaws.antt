@@ -6,7 +6,8 @@
 use mathlib.Core.Path.{_≡_, refl}
 use Prim.Native.Nat.{ℕ}
 use lib.ListN.{length}
-use Rattle.table.specs.Override.{optionCount, modifiedDates, chosen}
+use Rattle.basis.specs.Bytes.{hasBit}
+use Rattle.table.specs.Override.{optionCount, modifiedDates}
 use Rattle.options.specs.Options.{options, bitOf, isChosen}
 use Rattle.options.specs.declared.Opt.{Opt}
 use Rattle.options.specs.declared.Opt.the-variants.{ModifiedDates}
@@ -17,5 +18,5 @@ modifiedDates-tie = refl
 pub optionCount-tie : optionCount ≡ length options
 optionCount-tie = refl
 
-pub chosen-tie : (number : ℕ) (o : Opt) → chosen number (bitOf o) ≡ isChosen number o
+pub chosen-tie : (number : ℕ) (o : Opt) → hasBit number (bitOf o) ≡ isChosen number o
 chosen-tie number o = refl

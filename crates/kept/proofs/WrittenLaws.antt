@@ -17,11 +17,12 @@ use lib.Dec.{eqb}
 use lib.ListN.{length}
 use Rattle.basis.specs.Choice.{among}
 use Rattle.vr.specs.Names.{DA, UI}
-use Rattle.vr.specs.Vr.{known}
-use Rattle.table.specs.Rules.{marks}
+use Rattle.vr.specs.Vr.{allVrs}
+use Rattle.table.specs.Rules.{reserved}
+use Rattle.layout.specs.Source.{explicitly}
 use Rattle.layout.specs.Tree.{value, bare}
 use Rattle.layout.specs.Heads.{allowed}
-use Rattle.layout.specs.Made.{room, Made, MadeField, MadeItems}
+use Rattle.layout.specs.Made.{lengthsBelow, Made, MadeField, MadeItems}
 use Rattle.layout.specs.Read.{good as read-well, with, read}
 use Rattle.layout.specs.Write.{bytesOf}
 use Rattle.layout.proofs.RoundLaws.{bytesOf-inj, read-bytesOf, bare-bare}
@@ -33,14 +34,18 @@ use Rattle.uid.proofs.ValueLaws.{valueOf-even}
 use Rattle.uid.proofs.NewUidLaws.{digitsLeft, uidsText-inj, uidsText-length}
 use Rattle.calendar.specs.Values.{shiftedValue}
 use Rattle.calendar.proofs.ValuesLaws.{shiftedValue-length, shiftedValue-inj}
-use Rattle.kept.specs.Settings.{Settings}
-use Rattle.kept.specs.Fates.{Level, top, Fate, removed, kept, walked, emptied, dummied, renamed, shifted, wrong, fate, below}
+use Rattle.treatment.specs.Settings.{Settings}
+use Rattle.treatment.specs.Fates.{fate, below}
+use Rattle.treatment.specs.declared.Level.{Level}
+use Rattle.treatment.specs.declared.Level.the-variants.{Top}
+use Rattle.treatment.specs.declared.Fate.{Fate}
+use Rattle.treatment.specs.declared.Fate.the-variants.{Removed, Kept, Walked, Emptied, Dummied, Renamed, Shifted, Wrong}
 use Rattle.kept.specs.Content.{Body, shown, blank, uids, walk, Content, end, keep, Walks, last, each}
 use Rattle.kept.specs.Fillers.{filler}
 use Rattle.kept.specs.Written.{shiftedAs, valueAs, writtenField, writtenOf, writtenItems, export, written}
-use Rattle.kept.proofs.FatesLaws.{fate-walked, fate-renamed, fate-marks}
-use Rattle.kept.proofs.FillersLaws.{room-value, emptiedAs-made, dummiedAs-made}
-use Rattle.kept.proofs.MarksLaws.{Absent, marked-made, marked-inj}
+use Rattle.treatment.proofs.FatesLaws.{fate-walked, fate-renamed, fate-reserved}
+use Rattle.kept.proofs.FillersLaws.{lengthsBelow-value, emptiedAs-made, dummiedAs-made}
+use Rattle.kept.proofs.MarkersLaws.{Absent, withMarkers-made, withMarkers-inj}
 
 -- ---- numbered content
 
@@ -49,32 +54,32 @@ abbrev pub numberLimit : ℕ
 numberLimit = 10 ^ digitsLeft
 
 abbrev pub ShownAt : Settings → Fate → ℕ → List ℕ → Type 0
-ShownAt s removed vr v = ⊥
-ShownAt s kept vr v = Unit {0}
-ShownAt s walked vr v = ⊥
-ShownAt s emptied vr v = ⊥
-ShownAt s dummied vr v = ⊥
-ShownAt s renamed vr v = ⊥
-ShownAt s shifted vr v = (x : List ℕ) × (shiftedValue (eqb vr DA) (s .shift) v ≡ some x)
-ShownAt s wrong vr v = ⊥
+ShownAt s Removed vr v = ⊥
+ShownAt s Kept vr v = Unit {0}
+ShownAt s Walked vr v = ⊥
+ShownAt s Emptied vr v = ⊥
+ShownAt s Dummied vr v = ⊥
+ShownAt s Renamed vr v = ⊥
+ShownAt s Shifted vr v = (x : List ℕ) × (shiftedValue (eqb vr DA) (s .shift) v ≡ some x)
+ShownAt s Wrong vr v = ⊥
 
 abbrev pub BlankAt : Fate → Type 0
-BlankAt removed = ⊥
-BlankAt kept = ⊥
-BlankAt walked = ⊥
-BlankAt emptied = Unit {0}
-BlankAt dummied = Unit {0}
-BlankAt renamed = ⊥
-BlankAt shifted = ⊥
-BlankAt wrong = ⊥
+BlankAt Removed = ⊥
+BlankAt Kept = ⊥
+BlankAt Walked = ⊥
+BlankAt Emptied = Unit {0}
+BlankAt Dummied = Unit {0}
+BlankAt Renamed = ⊥
+BlankAt Shifted = ⊥
+BlankAt Wrong = ⊥
 
 unfoldable mutual
   pub NumberedBody : Body ℕ → Settings → Level → ℕ → ℕ → ℕ → Type 0
-  NumberedBody (shown v) s level depth tag vr = ShownAt s (fate s level tag vr) vr v × (length v % 2 ≡ 0) × (length v < room vr)
-  NumberedBody blank s level depth tag vr = BlankAt (fate s level tag vr) × (among vr known ≡ true)
+  NumberedBody (shown v) s level depth tag vr = ShownAt s (fate s level tag vr) vr v × (length v % 2 ≡ 0) × (length v < lengthsBelow vr)
+  NumberedBody blank s level depth tag vr = BlankAt (fate s level tag vr) × (among vr allVrs ≡ true)
   NumberedBody (uids ns) s level depth tag vr =
-      (fate s level tag vr ≡ renamed) × (length ns ≤ mostUids) × ((n : ℕ) → List·Memᴰ n ns → n < numberLimit)
-  NumberedBody (walk ws) s level depth tag vr = (fate s level tag vr ≡ walked) × NumberedWalks ws s (below level) depth
+      (fate s level tag vr ≡ Renamed) × (length ns ≤ mostUids) × ((n : ℕ) → List·Memᴰ n ns → n < numberLimit)
+  NumberedBody (walk ws) s level depth tag vr = (fate s level tag vr ≡ Walked) × NumberedWalks ws s (below (fate s level tag vr) level) depth
 
   pub Numbered : Content ℕ → Settings → Level → ℕ → ℕ → Type 0
   Numbered end s level depth low = Unit {0}
@@ -93,9 +98,9 @@ numbered-lower (keep tag vr b c) s level depth low low′ h m = (omega arith, m 
 
 -- ---- what is written is well-made
 
-ui-room : 65536 ≤ room UI
+ui-lengthsBelow : 65536 ≤ lengthsBelow UI
 unfolding among
-ui-room = room-value UI refl (omega arith)
+ui-lengthsBelow = lengthsBelow-value UI refl (omega arith)
 
 module _ (s : Settings) (vr : ℕ) where
   or-shifted : (v x : List ℕ) → shiftedValue (eqb vr DA) (s .shift) v ≡ some x → shiftedAs s vr v ≡ x
@@ -103,46 +108,46 @@ module _ (s : Settings) (vr : ℕ) where
   or-shifted v x e = rw e
 
   valueAs-length : (φ : Fate) (v : List ℕ) → ShownAt s φ vr v → length (valueAs s φ vr v) ≡ length v
-  valueAs-length removed v h = absurd h
-  valueAs-length kept v h = refl
-  valueAs-length walked v h = absurd h
-  valueAs-length emptied v h = absurd h
-  valueAs-length dummied v h = absurd h
-  valueAs-length renamed v h = absurd h
-  valueAs-length shifted v h = ap length (or-shifted v (h .0) (h .1)) ∙ shiftedValue-length (eqb vr DA) (s .shift) v (h .0) (h .1)
-  valueAs-length wrong v h = absurd h
+  valueAs-length Removed v h = absurd h
+  valueAs-length Kept v h = refl
+  valueAs-length Walked v h = absurd h
+  valueAs-length Emptied v h = absurd h
+  valueAs-length Dummied v h = absurd h
+  valueAs-length Renamed v h = absurd h
+  valueAs-length Shifted v h = ap length (or-shifted v (h .0) (h .1)) ∙ shiftedValue-length (eqb vr DA) (s .shift) v (h .0) (h .1)
+  valueAs-length Wrong v h = absurd h
 
   valueAs-inj : (φ : Fate) (v w : List ℕ) → ShownAt s φ vr v → ShownAt s φ vr w → valueAs s φ vr v ≡ valueAs s φ vr w → v ≡ w
-  valueAs-inj removed v w h k e = e
-  valueAs-inj kept v w h k e = e
-  valueAs-inj walked v w h k e = e
-  valueAs-inj emptied v w h k e = e
-  valueAs-inj dummied v w h k e = e
-  valueAs-inj renamed v w h k e = e
-  valueAs-inj shifted v w h k e =
+  valueAs-inj Removed v w h k e = e
+  valueAs-inj Kept v w h k e = e
+  valueAs-inj Walked v w h k e = e
+  valueAs-inj Emptied v w h k e = e
+  valueAs-inj Dummied v w h k e = e
+  valueAs-inj Renamed v w h k e = e
+  valueAs-inj Shifted v w h k e =
       let q : h .0 ≡ k .0 = sym (or-shifted v (h .0) (h .1)) ∙ e ∙ or-shifted w (k .0) (k .1) in
       shiftedValue-inj (eqb vr DA) (s .shift) v w (h .0) (h .1) (k .1 ∙ ap some (sym q))
-  valueAs-inj wrong v w h k e = e
+  valueAs-inj Wrong v w h k e = e
 
-  filler-made : (φ : Fate) (tag depth : ℕ) → BlankAt φ → among vr known ≡ true → 0 < depth → MadeField depth vr (filler s φ tag vr)
-  filler-made removed tag depth b is pos = absurd b
-  filler-made kept tag depth b is pos = absurd b
-  filler-made walked tag depth b is pos = absurd b
-  filler-made emptied tag depth b is pos = emptiedAs-made s tag vr depth is
-  filler-made dummied tag depth b is pos = dummiedAs-made s tag vr depth is pos
-  filler-made renamed tag depth b is pos = absurd b
-  filler-made shifted tag depth b is pos = absurd b
-  filler-made wrong tag depth b is pos = absurd b
+  filler-made : (φ : Fate) (tag depth : ℕ) → BlankAt φ → among vr allVrs ≡ true → 0 < depth → MadeField depth vr (filler s φ tag vr)
+  filler-made Removed tag depth b is pos = absurd b
+  filler-made Kept tag depth b is pos = absurd b
+  filler-made Walked tag depth b is pos = absurd b
+  filler-made Emptied tag depth b is pos = emptiedAs-made s tag vr depth is
+  filler-made Dummied tag depth b is pos = dummiedAs-made s tag vr depth is pos
+  filler-made Renamed tag depth b is pos = absurd b
+  filler-made Shifted tag depth b is pos = absurd b
+  filler-made Wrong tag depth b is pos = absurd b
 
   shown-blank : (φ : Fate) (v : List ℕ) → ShownAt s φ vr v → BlankAt φ → ⊥
-  shown-blank removed v h b = b
-  shown-blank kept v h b = b
-  shown-blank walked v h b = b
-  shown-blank emptied v h b = h
-  shown-blank dummied v h b = h
-  shown-blank renamed v h b = b
-  shown-blank shifted v h b = b
-  shown-blank wrong v h b = b
+  shown-blank Removed v h b = b
+  shown-blank Kept v h b = b
+  shown-blank Walked v h b = b
+  shown-blank Emptied v h b = h
+  shown-blank Dummied v h b = h
+  shown-blank Renamed v h b = b
+  shown-blank Shifted v h b = b
+  shown-blank Wrong v h b = b
 
 module _ (s : Settings) (good : isRoot (s .root) ≡ true) where
   uids-made : (ns : List ℕ) (depth vr : ℕ) → vr ≡ UI → length ns ≤ mostUids → ((n : ℕ) → List·Memᴰ n ns → n < numberLimit)
@@ -151,7 +156,7 @@ module _ (s : Settings) (good : isRoot (s .root) ≡ true) where
   uids-made ns depth vr e few low =
       rw e (
         valueOf-even (map (newUid (s .root)) ns),
-        omega (arith, ui-room, uidsText-length (s .root) (digitsLeft - 1) (omega (arith, uidUpto-is longestRoot (s .root) good .upto)) ns low few),
+        omega (arith, ui-lengthsBelow, uidsText-length (s .root) (digitsLeft - 1) (omega (arith, uidUpto-is longestRoot (s .root) good .upto)) ns low few),
       )
 
   mutual
@@ -164,7 +169,7 @@ module _ (s : Settings) (good : isRoot (s .root) ≡ true) where
     writtenField-made blank level depth deeper tag vr h n = filler-made s vr (fate s level tag vr) tag deeper (n .0) (n .1) (omega arith)
     writtenField-made (uids ns) level depth deeper tag vr h n = uids-made ns deeper vr (fate-renamed s level tag vr (n .0)) (n .1) (n .2)
     writtenField-made (walk ws) level depth deeper tag vr h n =
-        (fate-walked s level tag vr (n .0), writtenItems-made ws (below level) depth deeper h (n .1))
+        (fate-walked s level tag vr (n .0), writtenItems-made ws (below (fate s level tag vr) level) depth deeper h (n .1))
 
     pub writtenOf-made : (c : Content ℕ) (level : Level) (depth deeper low : ℕ) → depth < deeper → Numbered c s level depth low
         → Made deeper low (writtenOf c s level)
@@ -207,8 +212,8 @@ module _ (s : Settings) (good : isRoot (s .root) ≡ true) where
     writtenField-inj (walk ws) blank level depth tag vr n m e = absurd (rw (n .0) at (m .0))
     writtenField-inj (walk ws) (uids ks) level depth tag vr n m e = cc
     writtenField-inj (walk ws) (walk xs) level depth tag vr n m e =
-        let q : writtenItems ws s (below level) ≡ writtenItems xs s (below level) = cc in
-        ap walk (writtenItems-inj ws xs (below level) depth (n .1) (m .1) q)
+        let q : writtenItems ws s (below (fate s level tag vr) level) ≡ writtenItems xs s (below (fate s level tag vr) level) = cc in
+        ap walk (writtenItems-inj ws xs (below (fate s level tag vr) level) depth (n .1) (m .1) q)
 
     pub writtenOf-inj : (c d : Content ℕ) (level : Level) (depth low : ℕ) → Numbered c s level depth low → Numbered d s level depth low
         → writtenOf c s level ≡ writtenOf d s level → c ≡ d
@@ -239,40 +244,40 @@ module _ (s : Settings) (good : isRoot (s .root) ≡ true) where
   -- ---- export, written
 
   -- a tag that is removed at the top does not stand there
-  body-removed : (b : Body ℕ) (depth tag vr : ℕ) → NumberedBody b s top depth tag vr → fate s top tag vr ≡ removed → ⊥
+  body-removed : (b : Body ℕ) (depth tag vr : ℕ) → NumberedBody b s Top depth tag vr → fate s Top tag vr ≡ Removed → ⊥
   unfolding Numbered
   body-removed (shown v) depth tag vr n e = rw e at (n .0)
   body-removed blank depth tag vr n e = rw e at (n .0)
   body-removed (uids ns) depth tag vr n e = let z : _≡_ {A = ℕ} 0 1 = cc in omega arith
   body-removed (walk ws) depth tag vr n e = let z : _≡_ {A = ℕ} 0 1 = cc in omega arith
 
-  mark-absent : (mark : ℕ) → among mark marks ≡ true → (c : Content ℕ) (depth low : ℕ) → Numbered c s top depth low → Absent mark (writtenOf c s top)
+  mark-absent : (mark : ℕ) → among mark reserved ≡ true → (c : Content ℕ) (depth low : ℕ) → Numbered c s Top depth low → Absent mark (writtenOf c s Top)
   unfolding Numbered writtenOf Absent
   mark-absent mark is end depth low n = tt
   mark-absent mark is (keep tag vr b c) depth low n =
-      (λ e. body-removed b depth tag vr (n .2) (fate-marks s tag vr (rw e at is)), mark-absent mark is c depth (tag + 1) (n .3))
+      (λ e. body-removed b depth tag vr (n .2) (fate-reserved s tag vr (rw e at is)), mark-absent mark is c depth (tag + 1) (n .3))
 
   module _ (depth : ℕ) where
-    pub export-made : (c : Content ℕ) → Numbered c s top depth 0 → Made (depth + 1) 0 (export s c)
+    pub export-made : (c : Content ℕ) → Numbered c s Top depth 0 → Made (depth + 1) 0 (export s c)
     unfolding export
     export-made c n =
-        marked-made (s .options) (depth + 1) (omega arith) (writtenOf c s top) (λ mark is. mark-absent mark is c depth 0 n)
-        (writtenOf-made c top depth (depth + 1) 0 (omega arith) n)
+        withMarkers-made (s .options) (depth + 1) (omega arith) (writtenOf c s Top) (λ mark is. mark-absent mark is c depth 0 n)
+        (writtenOf-made c Top depth (depth + 1) 0 (omega arith) n)
 
-    pub export-inj : (c d : Content ℕ) → Numbered c s top depth 0 → Numbered d s top depth 0 → export s c ≡ export s d → c ≡ d
+    pub export-inj : (c d : Content ℕ) → Numbered c s Top depth 0 → Numbered d s Top depth 0 → export s c ≡ export s d → c ≡ d
     unfolding export
     export-inj c d n m e =
-        writtenOf-inj c d top depth 0 n m
-        (marked-inj (s .options) (writtenOf c s top) (writtenOf d s top) (λ mark is. mark-absent mark is c depth 0 n) (λ mark is. mark-absent mark is d depth 0 m) e)
+        writtenOf-inj c d Top depth 0 n m
+        (withMarkers-inj (s .options) (writtenOf c s Top) (writtenOf d s Top) (λ mark is. mark-absent mark is c depth 0 n) (λ mark is. mark-absent mark is d depth 0 m) e)
 
     -- THEOREM: equal bytes were written of equal content
-    pub written-inj : (c d : Content ℕ) → Numbered c s top depth 0 → Numbered d s top depth 0 → written s c ≡ written s d → c ≡ d
+    pub written-inj : (c d : Content ℕ) → Numbered c s Top depth 0 → Numbered d s Top depth 0 → written s c ≡ written s d → c ≡ d
     unfolding written
     written-inj c d n m e =
         export-inj c d n m (bytesOf-inj (depth + 1) (export s c) (export s d) (export-made c n) (export-made d m) e)
 
     -- THEOREM: what is written reads back as the data set that was meant, one level deeper than its input may nest
-    pub written-reads : (c : Content ℕ) → Numbered c s top depth 0 → with bare (read (depth + 1) (written s c)) ≡ read-well (export s c) (length (written s c))
+    pub written-reads : (c : Content ℕ) → Numbered c s Top depth 0 → with bare (read (depth + 1) (explicitly (written s c))) ≡ read-well (export s c) (length (written s c))
     unfolding written
     written-reads c n =
         read-bytesOf (depth + 1) (export s c) (export-made c n) ∙ ap (λ d. read-well d (length (bytesOf (export s c)))) (bare-bare (export s c))

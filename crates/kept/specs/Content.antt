@@ -4,8 +4,8 @@
 --     Body X         a value; nothing but tag and VR; UIDs; the items of a sequence that is walked into
 --     Walks X        those items, in order
 --     mapContent f   the same content, each name changed by f
---     namesIn c      its names, in order
---     mapAll, namesOf    the same of the contents of a batch
+--     uidsIn c      its names, in order
+--     mapAll, uidsInAll    the same of the contents of a batch
 use mathlib.Core.List.{List, [], _∷_, _++_, map}
 use Prim.Native.Nat.{ℕ}
 
@@ -40,23 +40,23 @@ unfoldable mutual
   mapWalks f (each c ws) = each (mapContent f c) (mapWalks f ws)
 
 unfoldable mutual
-  pub namesInBody : {X : Type 0} → Body X → List X
-  namesInBody (shown v) = []
-  namesInBody blank = []
-  namesInBody (uids us) = us
-  namesInBody (walk ws) = namesInWalks ws
+  pub uidsInBody : {X : Type 0} → Body X → List X
+  uidsInBody (shown v) = []
+  uidsInBody blank = []
+  uidsInBody (uids us) = us
+  uidsInBody (walk ws) = uidsInWalks ws
 
-  pub namesIn : {X : Type 0} → Content X → List X
-  namesIn end = []
-  namesIn (keep tag vr b c) = namesInBody b ++ namesIn c
+  pub uidsIn : {X : Type 0} → Content X → List X
+  uidsIn end = []
+  uidsIn (keep tag vr b c) = uidsInBody b ++ uidsIn c
 
-  pub namesInWalks : {X : Type 0} → Walks X → List X
-  namesInWalks last = []
-  namesInWalks (each c ws) = namesIn c ++ namesInWalks ws
+  pub uidsInWalks : {X : Type 0} → Walks X → List X
+  uidsInWalks last = []
+  uidsInWalks (each c ws) = uidsIn c ++ uidsInWalks ws
 
 abbrev pub mapAll : {X Y : Type 0} → (X → Y) → List (Content X) → List (Content Y)
 mapAll f cs = map (mapContent f) cs
 
-unfoldable pub namesOf : {X : Type 0} → List (Content X) → List X
-namesOf [] = []
-namesOf (c ∷ cs) = namesIn c ++ namesOf cs
+unfoldable pub uidsInAll : {X : Type 0} → List (Content X) → List X
+uidsInAll [] = []
+uidsInAll (c ∷ cs) = uidsIn c ++ uidsInAll cs

@@ -7,9 +7,13 @@
 --     total c                 the four together
 --     elementsMet es s level  the number of elements of a level, with those of the items that are walked into
 use Prim.Native.Nat.{ℕ, _+_}
+use Rattle.basis.specs.Choice.{pick}
 use Rattle.layout.specs.Tree.{Field, value, items, Elements, nil, elem, Items, none as noItem, item}
-use Rattle.kept.specs.Settings.{Settings}
-use Rattle.kept.specs.Fates.{Level, Fate, removed, kept, walked, emptied, dummied, renamed, shifted, wrong, fate, below}
+use Rattle.treatment.specs.Settings.{Settings}
+use Rattle.treatment.specs.Fates.{fate, walksInto, below}
+use Rattle.treatment.specs.declared.Level.{Level}
+use Rattle.treatment.specs.declared.Fate.{Fate}
+use Rattle.treatment.specs.declared.Fate.the-variants.{Removed, Kept, Walked, Emptied, Dummied, Renamed, Shifted, Wrong}
 
 pub record Counts : Type 0 where
   pub stayed : ℕ
@@ -28,30 +32,23 @@ plus a b = counts (a .stayed + b .stayed) (a .replaced + b .replaced) (a .renami
 
 -- a walked sequence is kept; shifted elements, empty or not, are replaced (K12); what is wrong is refused and never counted
 abbrev pub one : Fate → Counts
-one removed = counts 0 0 0 1
-one kept = counts 1 0 0 0
-one walked = counts 1 0 0 0
-one emptied = counts 0 1 0 0
-one dummied = counts 0 1 0 0
-one renamed = counts 0 0 1 0
-one shifted = counts 0 1 0 0
-one wrong = counts 1 0 0 0
+one Removed = counts 0 0 0 1
+one Kept = counts 1 0 0 0
+one Walked = counts 1 0 0 0
+one Emptied = counts 0 1 0 0
+one Dummied = counts 0 1 0 0
+one Renamed = counts 0 0 1 0
+one Shifted = counts 0 1 0 0
+one Wrong = counts 1 0 0 0
 
 -- what is inside a sequence counts where it is walked into
 abbrev pub inside : Counts → Fate → Counts
-inside c removed = nothing
-inside c kept = nothing
-inside c walked = c
-inside c emptied = nothing
-inside c dummied = nothing
-inside c renamed = nothing
-inside c shifted = nothing
-inside c wrong = nothing
+inside c φ = pick (walksInto φ) c nothing
 
 unfoldable mutual
   pub countsField : {L : Type 0} → Field L → Settings → Level → Fate → Counts
   countsField (value v) s level φ = nothing
-  countsField (items is) s level φ = inside (countsItems is s (below level)) φ
+  countsField (items is) s level φ = inside (countsItems is s (below φ level)) φ
 
   pub countsOf : {L : Type 0} → Elements L → Settings → Level → Counts
   countsOf nil s level = nothing
@@ -66,21 +63,10 @@ unfoldable mutual
 abbrev pub total : Counts → ℕ
 total c = c .stayed + c .replaced + c .renamings + c .removals
 
--- n where the fate is to be walked into
-abbrev pub within : ℕ → Fate → ℕ
-within n removed = 0
-within n kept = 0
-within n walked = n
-within n emptied = 0
-within n dummied = 0
-within n renamed = 0
-within n shifted = 0
-within n wrong = 0
-
 unfoldable mutual
   pub fieldMet : {L : Type 0} → Field L → Settings → Level → Fate → ℕ
   fieldMet (value v) s level φ = 0
-  fieldMet (items is) s level φ = within (itemsMet is s (below level)) φ
+  fieldMet (items is) s level φ = pick (walksInto φ) (itemsMet is s (below φ level)) 0
 
   pub elementsMet : {L : Type 0} → Elements L → Settings → Level → ℕ
   elementsMet nil s level = 0

@@ -16,8 +16,9 @@ use Rattle.vr.specs.Names.{SQ}
 use Rattle.vr.specs.Vr.{servedByLists, dummyOf}
 use Rattle.layout.specs.Tree.{Field, value, items, nil, none as noItem, item}
 use Rattle.lists.specs.Lookup.{asked}
-use Rattle.kept.specs.Settings.{Settings}
-use Rattle.kept.specs.Fates.{Fate, removed, kept, walked, emptied, dummied, renamed, shifted, wrong}
+use Rattle.treatment.specs.Settings.{Settings}
+use Rattle.treatment.specs.declared.Fate.{Fate}
+use Rattle.treatment.specs.declared.Fate.the-variants.{Removed, Kept, Walked, Emptied, Dummied, Renamed, Shifted, Wrong}
 
 unfoldable pub spaced : List ℕ → List ℕ
 spaced t = pick (eqb (length t % 2) 0) t (t ++ 0x20 ∷ [])
@@ -37,11 +38,11 @@ dummiedAs s tag vr = pick (eqb vr SQ) (items (item nil noItem)) (value (spaced (
 
 -- no other fate leaves an element blank
 abbrev pub filler : Settings → Fate → ℕ → ℕ → Field (Unit {0})
-filler s removed tag vr = value []
-filler s kept tag vr = value []
-filler s walked tag vr = value []
-filler s emptied tag vr = emptiedAs s tag vr
-filler s dummied tag vr = dummiedAs s tag vr
-filler s renamed tag vr = value []
-filler s shifted tag vr = value []
-filler s wrong tag vr = value []
+filler s Removed tag vr = value []
+filler s Kept tag vr = value []
+filler s Walked tag vr = value []
+filler s Emptied tag vr = emptiedAs s tag vr
+filler s Dummied tag vr = dummiedAs s tag vr
+filler s Renamed tag vr = value []
+filler s Shifted tag vr = value []
+filler s Wrong tag vr = value []

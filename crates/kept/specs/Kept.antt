@@ -1,64 +1,54 @@
 -- The kept content of a data set: document 01, "Kept content and the four counts", 1st paragraph; readings K1 to K6.
 -- Laws: `proofs/KeptLaws.antt`. Assumes nothing.
 --     Uid                  a UID, as its characters
---     uidsIn v             the UIDs of a value that obeys its rule
+--     heldUids v           the UIDs of a value that obeys its rule
 --     keptOf es s level    the kept content of the elements es, which stand on this level, under the settings s
 use mathlib.Core.List.{List, []}
 use mathlib.Core.Option.{Option, none, some}
 use Prim.Native.Nat.{ℕ}
+use Rattle.basis.specs.Choice.{pick}
 use Rattle.layout.specs.Tree.{Field, value, items, Elements, nil, elem, Items, none as noItem, item}
 use Rattle.uid.specs.Value.{uidsOf}
-use Rattle.kept.specs.Settings.{Settings}
-use Rattle.kept.specs.Fates.{Level, Fate, removed, kept, walked, emptied, dummied, renamed, shifted, wrong, fate, below}
+use Rattle.treatment.specs.Settings.{Settings}
+use Rattle.treatment.specs.Fates.{fate, leavesOut, walksInto, below}
+use Rattle.treatment.specs.declared.Level.{Level}
+use Rattle.treatment.specs.declared.Fate.{Fate}
+use Rattle.treatment.specs.declared.Fate.the-variants.{Removed, Kept, Walked, Emptied, Dummied, Renamed, Shifted, Wrong}
 use Rattle.kept.specs.Content.{Body, shown, blank, uids, walk, Content, end, keep, Walks, last, each}
 
 abbrev pub Uid : Type 0
 Uid = List ℕ
 
-abbrev pub found : Option (List Uid) → List Uid
-found none = []
-found (some us) = us
+abbrev pub orNone : Option (List Uid) → List Uid
+orNone none = []
+orNone (some us) = us
 
-abbrev pub uidsIn : List ℕ → List Uid
-uidsIn v = found (uidsOf v)
+abbrev pub heldUids : List ℕ → List Uid
+heldUids v = orNone (uidsOf v)
 
 -- what is shown of a value, by the element's fate: a shifted one as it came in (K1)
 abbrev pub keptValue : List ℕ → Fate → Body Uid
-keptValue v removed = blank
-keptValue v kept = shown v
-keptValue v walked = blank
-keptValue v emptied = blank
-keptValue v dummied = blank
-keptValue v renamed = uids (uidsIn v)
-keptValue v shifted = shown v
-keptValue v wrong = blank
+keptValue v Removed = blank
+keptValue v Kept = shown v
+keptValue v Walked = blank
+keptValue v Emptied = blank
+keptValue v Dummied = blank
+keptValue v Renamed = uids (heldUids v)
+keptValue v Shifted = shown v
+keptValue v Wrong = blank
 
 -- what is shown of a sequence: its items where it is walked into, else nothing (K5)
 abbrev pub keptSequence : Walks Uid → Fate → Body Uid
-keptSequence ws removed = blank
-keptSequence ws kept = blank
-keptSequence ws walked = walk ws
-keptSequence ws emptied = blank
-keptSequence ws dummied = blank
-keptSequence ws renamed = blank
-keptSequence ws shifted = blank
-keptSequence ws wrong = blank
+keptSequence ws φ = pick (walksInto φ) (walk ws) blank
 
 -- an element appears unless it is removed
 abbrev pub entry : Fate → ℕ → ℕ → (Fate → Body Uid) → Content Uid → Content Uid
-entry removed tag vr b c = c
-entry kept tag vr b c = keep tag vr (b kept) c
-entry walked tag vr b c = keep tag vr (b walked) c
-entry emptied tag vr b c = keep tag vr (b emptied) c
-entry dummied tag vr b c = keep tag vr (b dummied) c
-entry renamed tag vr b c = keep tag vr (b renamed) c
-entry shifted tag vr b c = keep tag vr (b shifted) c
-entry wrong tag vr b c = keep tag vr (b wrong) c
+entry φ tag vr b c = pick (leavesOut φ) c (keep tag vr (b φ) c)
 
 unfoldable mutual
   pub keptField : {L : Type 0} → Field L → Settings → Level → Fate → Body Uid
   keptField (value v) s level φ = keptValue v φ
-  keptField (items is) s level φ = keptSequence (keptItems is s (below level)) φ
+  keptField (items is) s level φ = keptSequence (keptItems is s (below φ level)) φ
 
   pub keptOf : {L : Type 0} → Elements L → Settings → Level → Content Uid
   keptOf nil s level = end

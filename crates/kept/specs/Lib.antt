@@ -1,11 +1,9 @@
-pub mod Settings
-pub mod Fates
 pub mod Content
 pub mod Kept
 pub mod Numbering
 pub mod Renaming
 pub mod Fillers
-pub mod Marks
+pub mod Markers
 pub mod Written
 pub mod Counts
 pub mod Faults

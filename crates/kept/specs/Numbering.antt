@@ -4,8 +4,8 @@
 --     numberedAll same known cs   the contents of a batch, the names handed on from data set to data set
 use mathlib.Core.List.{List, [], _∷_}
 use Prim.Native.Nat.{ℕ}
-use Rattle.ledger.specs.Names.{learns, numbers}
-use Rattle.kept.specs.Content.{Body, shown, blank, uids, walk, Content, end, keep, Walks, last, each, namesInBody, namesIn}
+use Rattle.ledger.specs.FirstMet.{learns, numbers}
+use Rattle.kept.specs.Content.{Body, shown, blank, uids, walk, Content, end, keep, Walks, last, each, uidsInBody, uidsIn}
 
 module _ {X : Type 0} (same : Discrete X) where
   unfoldable mutual
@@ -17,12 +17,12 @@ module _ {X : Type 0} (same : Discrete X) where
 
     pub numbered : List X → Content X → Content ℕ
     numbered known end = end
-    numbered known (keep tag vr b c) = keep tag vr (numberedBody known b) (numbered (learns same known (namesInBody b)) c)
+    numbered known (keep tag vr b c) = keep tag vr (numberedBody known b) (numbered (learns same known (uidsInBody b)) c)
 
     pub numberedWalks : List X → Walks X → Walks ℕ
     numberedWalks known last = last
-    numberedWalks known (each c ws) = each (numbered known c) (numberedWalks (learns same known (namesIn c)) ws)
+    numberedWalks known (each c ws) = each (numbered known c) (numberedWalks (learns same known (uidsIn c)) ws)
 
   unfoldable pub numberedAll : List X → List (Content X) → List (Content ℕ)
   numberedAll known [] = []
-  numberedAll known (c ∷ cs) = numbered known c ∷ numberedAll (learns same known (namesIn c)) cs
+  numberedAll known (c ∷ cs) = numbered known c ∷ numberedAll (learns same known (uidsIn c)) cs

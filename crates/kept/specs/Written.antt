@@ -14,31 +14,35 @@ use Rattle.layout.specs.Tree.{Field, value, items, Elements, nil, elem, Items, 
 use Rattle.layout.specs.Write.{bytesOf}
 use Rattle.uid.specs.NewUid.{uidsText}
 use Rattle.calendar.specs.Values.{shiftedValue}
-use Rattle.kept.specs.Settings.{Settings}
-use Rattle.kept.specs.Fates.{Level, top, Fate, removed, kept, walked, emptied, dummied, renamed, shifted, wrong, fate, below}
+use Rattle.treatment.specs.Settings.{Settings}
+use Rattle.treatment.specs.Fates.{fate, below}
+use Rattle.treatment.specs.declared.Level.{Level}
+use Rattle.treatment.specs.declared.Level.the-variants.{Top}
+use Rattle.treatment.specs.declared.Fate.{Fate}
+use Rattle.treatment.specs.declared.Fate.the-variants.{Removed, Kept, Walked, Emptied, Dummied, Renamed, Shifted, Wrong}
 use Rattle.kept.specs.Content.{Body, shown, blank, uids, walk, Content, end, keep, Walks, last, each}
 use Rattle.kept.specs.Fillers.{or, filler}
-use Rattle.kept.specs.Marks.{marked}
+use Rattle.kept.specs.Markers.{withMarkers}
 
 unfoldable pub shiftedAs : Settings → ℕ → List ℕ → List ℕ
 shiftedAs s vr v = or (shiftedValue (eqb vr DA) (s .shift) v) v
 
 abbrev pub valueAs : Settings → Fate → ℕ → List ℕ → List ℕ
-valueAs s removed vr v = v
-valueAs s kept vr v = v
-valueAs s walked vr v = v
-valueAs s emptied vr v = v
-valueAs s dummied vr v = v
-valueAs s renamed vr v = v
-valueAs s shifted vr v = shiftedAs s vr v
-valueAs s wrong vr v = v
+valueAs s Removed vr v = v
+valueAs s Kept vr v = v
+valueAs s Walked vr v = v
+valueAs s Emptied vr v = v
+valueAs s Dummied vr v = v
+valueAs s Renamed vr v = v
+valueAs s Shifted vr v = shiftedAs s vr v
+valueAs s Wrong vr v = v
 
 unfoldable mutual
   pub writtenField : Body ℕ → Settings → Level → ℕ → ℕ → Field (Unit {0})
   writtenField (shown v) s level tag vr = value (valueAs s (fate s level tag vr) vr v)
   writtenField blank s level tag vr = filler s (fate s level tag vr) tag vr
   writtenField (uids ns) s level tag vr = value (uidsText (s .root) ns)
-  writtenField (walk ws) s level tag vr = items (writtenItems ws s (below level))
+  writtenField (walk ws) s level tag vr = items (writtenItems ws s (below (fate s level tag vr) level))
 
   pub writtenOf : Content ℕ → Settings → Level → Data
   writtenOf end s level = nil
@@ -49,7 +53,7 @@ unfoldable mutual
   writtenItems (each c ws) s level = item (writtenOf c s level) (writtenItems ws s level)
 
 unfoldable pub export : Settings → Content ℕ → Data
-export s c = marked (s .options) (writtenOf c s top)
+export s c = withMarkers (s .options) (writtenOf c s Top)
 
 unfoldable pub written : Settings → Content ℕ → List ℕ
 written s c = bytesOf (export s c)

@@ -12,6 +12,7 @@ use lib.Dec.{eqb, ltb, leb}
 use borrow.Author.Tests.{eqb-true, ltb-false, ne-eqb}
 use Rattle.basis.specs.Choice.{pick}
 use Rattle.basis.specs.Bytes.{le2}
+use Rattle.refusals.specs.Refusals.{cutShort, badVr, badLength, tooDeep}
 use Rattle.vr.specs.Vr.{kindOf}
 use Rattle.vr.specs.declared.Kind.the-variants.{Unknown, Short, Long, Sequence}
 use Rattle.layout.specs.Heads.{lengthFault, valueHead, longHead, vrHead}
@@ -23,16 +24,16 @@ pub lengthFault-none : (n left : ℕ) → lengthFault n left ≡ 0 → (n % 2 �
 unfolding lengthFault
 lengthFault-none n left e = step (eqb (n % 2) 0) (ltb left n) refl refl e
   where
-    step : (a b : Bool) → eqb (n % 2) 0 ≡ a → ltb left n ≡ b → _≡_ {A = ℕ} (pick a (pick b 6 0) 9) 0 → (n % 2 ≡ 0) × (n ≤ left)
+    step : (a b : Bool) → eqb (n % 2) 0 ≡ a → ltb left n ≡ b → _≡_ {A = ℕ} (pick a (pick b cutShort 0) badLength) 0 → (n % 2 ≡ 0) × (n ≤ left)
     step true true p q e = absurd (omega arith)
     step true false p q e = (eqb-true (n % 2) 0 p, ltb-false left n q)
     step false b p q e = absurd (omega arith)
 
-pub lengthFault-number : (n left : ℕ) → (lengthFault n left ≡ 0 → ⊥) → (6 ≤ lengthFault n left) × (lengthFault n left ≤ 10)
+pub lengthFault-number : (n left : ℕ) → (lengthFault n left ≡ 0 → ⊥) → (cutShort ≤ lengthFault n left) × (lengthFault n left ≤ tooDeep)
 unfolding lengthFault
 lengthFault-number n left e = step (eqb (n % 2) 0) (ltb left n) e
   where
-    step : (a b : Bool) → (_≡_ {A = ℕ} (pick a (pick b 6 0) 9) 0 → ⊥) → (6 ≤ pick a (pick b 6 0) 9) × (pick a (pick b 6 0) 9 ≤ 10)
+    step : (a b : Bool) → (_≡_ {A = ℕ} (pick a (pick b cutShort 0) badLength) 0 → ⊥) → (cutShort ≤ pick a (pick b cutShort 0) badLength) × (pick a (pick b cutShort 0) badLength ≤ tooDeep)
     step true true e = (omega arith, omega arith)
     step true false e = absurd (e refl)
     step false b e = (omega arith, omega arith)
@@ -44,7 +45,7 @@ fault-none n left e z = lengthFault-none n left (sym e ∙ z) .1
 -- ---- vrHead: one law for each kind of VR
 
 module _ (s : List ℕ) (at end tag vr : ℕ) where
-  pub vrHead-unknown : kindOf vr ≡ Unknown → vrHead s at end tag vr ≡ Bad 8
+  pub vrHead-unknown : kindOf vr ≡ Unknown → vrHead s at end tag vr ≡ Bad badVr
   unfolding vrHead
   vrHead-unknown e = rw (e, vrHead)
 

@@ -8,17 +8,18 @@
 --     made-bare             labels play no part in it
 use mathlib.Core.Path.{_≡_, refl, sym, ap, _∙_, subst}
 use mathlib.Core.Bool.{Bool, true, false}
-use mathlib.Core.List.{List}
 use Prim.Native.Nat.{ℕ, zero, suc, _+_, _-_, _%_, _≤_, _<_}
 use native.Mathlib.Omega.{arith}
 use lib.ListN.{length}
 use Rattle.basis.specs.Bytes.{part, AllBytes}
 use Rattle.basis.proofs.BytesLaws.{length-part}
+use Rattle.refusals.specs.Refusals.{cutShort, tooDeep}
 use Rattle.vr.specs.Names.{SQ}
+use Rattle.layout.specs.Source.{Source}
 use Rattle.layout.specs.Tree.{Field, value, items, Elements, nil, elem, Items, none, item, Place, bare, bareField, bareItems}
 use Rattle.layout.specs.Heads.{elementHead, itemHead, allowed}
 use Rattle.layout.specs.Read.{Result, good, fault, with, after, placed, elementsAt, itemsAt, read}
-use Rattle.layout.specs.Made.{room, Made, MadeField, MadeItems}
+use Rattle.layout.specs.Made.{lengthsBelow, Made, MadeField, MadeItems}
 use Rattle.layout.specs.declared.Head.{Head}
 use Rattle.layout.specs.declared.Head.the-variants.{Bad, End, Plain, Seq}
 use Rattle.layout.specs.declared.Spot.{Spot}
@@ -30,102 +31,102 @@ use Rattle.layout.proofs.ReadLaws.{at-bad, at-end, at-plain, at-seq, at
 
 abbrev pub Sound : {A : Type 0} → (A → Type 0) → ℕ → ℕ → Result A → Type 0
 Sound P at end (good a p) = (at ≤ p) × (p ≤ end) × P a
-Sound P at end (fault n o) = (6 ≤ n) × (n ≤ 10) × (at ≤ o) × (o ≤ end)
+Sound P at end (fault n offset) = (cutShort ≤ n) × (n ≤ tooDeep) × (at ≤ offset) × (offset ≤ end)
 
 sound-with : {A B : Type 0} (P : A → Type 0) (Q : B → Type 0) (f : A → B) (from at end : ℕ) (r : Result A) → ((a : A) → P a → Q (f a)) → from ≤ at
     → Sound P at end r → Sound Q from end (with f r)
 sound-with P Q f from at end (good a p) g h w = (omega arith, w .1, g a (w .2))
-sound-with P Q f from at end (fault n o) g h w = (w .0, w .1, omega arith, w .3)
+sound-with P Q f from at end (fault n offset) g h w = (w .0, w .1, omega arith, w .3)
 
 sound-after : {A B : Type 0} (P : A → Type 0) (Q : B → Type 0) (from at stop end : ℕ) (r : Result A) (f : A → ℕ → Result B) → from ≤ at → stop ≤ end
     → ((a : A) (p : ℕ) → P a → at ≤ p → p ≤ stop → Sound Q from end (f a p)) → Sound P at stop r → Sound Q from end (after r f)
 sound-after P Q from at stop end (good a p) f h k g w = g a p (w .2) (w .0) (w .1)
-sound-after P Q from at stop end (fault n o) f h k g w = (w .0, w .1, omega arith, omega arith)
+sound-after P Q from at stop end (fault n offset) f h k g w = (w .0, w .1, omega arith, omega arith)
 
 -- what is known of the tree: where the data set's numbers are bytes, it is well-made
-abbrev Well : List ℕ → ℕ → ℕ → Elements Place → Type 0
-Well s depth low es = AllBytes s → Made depth low es
+abbrev Well : Source → ℕ → ℕ → Elements Place → Type 0
+Well x depth low es = AllBytes (x .bytes) → Made depth low es
 
-abbrev WellItems : List ℕ → ℕ → Items Place → Type 0
-WellItems s depth is = AllBytes s → MadeItems depth is
+abbrev WellItems : Source → ℕ → Items Place → Type 0
+WellItems x depth is = AllBytes (x .bytes) → MadeItems depth is
 
-abbrev Next : ℕ → List ℕ → ℕ → Bool → ℕ → Type 0
-Next k s end marked depth = (at low : ℕ) → at ≤ end → end - at < k → Sound (Well s depth low) at end (elementsAt k s at end marked depth low)
+abbrev Next : ℕ → Source → ℕ → Bool → ℕ → Type 0
+Next k x end unstated depth = (at low : ℕ) → at ≤ end → end - at < k → Sound (Well x depth low) at end (elementsAt k x at end unstated depth low)
 
-abbrev NextItems : ℕ → List ℕ → ℕ → Bool → ℕ → Type 0
-NextItems k s end marked depth = (at : ℕ) → at ≤ end → end - at < k → Sound (WellItems s depth) at end (itemsAt k s at end marked depth)
+abbrev NextItems : ℕ → Source → ℕ → Bool → ℕ → Type 0
+NextItems k x end unstated depth = (at : ℕ) → at ≤ end → end - at < k → Sound (WellItems x depth) at end (itemsAt k x at end unstated depth)
 
-step-elements : (k : ℕ) (s : List ℕ) (at end : ℕ) (marked : Bool) (depth low : ℕ) → at ≤ end → end - at < suc k → end ≤ length s
-    → Next k s end marked depth → ((stop : ℕ) (m : Bool) → stop ≤ length s → NextItems k s stop m depth)
-    → (h : Head) → h ≡ elementHead s at end marked low → Lies s at end low h → Sound (Well s depth low) at end (elementsAt (suc k) s at end marked depth low)
+step-elements : (k : ℕ) (x : Source) (at end : ℕ) (unstated : Bool) (depth low : ℕ) → at ≤ end → end - at < suc k → end ≤ length (x .bytes)
+    → Next k x end unstated depth → ((stop : ℕ) (m : Bool) → stop ≤ length (x .bytes) → NextItems k x stop m depth)
+    → (h : Head) → h ≡ elementHead x at end unstated low → Lies (x .bytes) at end low h → Sound (Well x depth low) at end (elementsAt (suc k) x at end unstated depth low)
 unfolding Made MadeField
-step-elements k s at end marked depth low le lt in-s next nextItems (Bad n) e w =
-    rw (at-bad s at end marked depth low k n e) (w .0, w .1, omega arith, le)
-step-elements k s at end marked depth low le lt in-s next nextItems (End p) e w =
-    rw (at-end s at end marked depth low k p e) (w .0, w .1, λ b. tt)
-step-elements k s at end marked depth low le lt in-s next nextItems (Plain tag vr body p) e w =
-    rw (at-plain s at end marked depth low k tag vr body p e)
-    (sound-with (Well s depth (tag + 1)) (Well s depth low) (elem (placed at body p) tag vr (value (part s body p))) at p end
-    (elementsAt k s p end marked depth (tag + 1))
-    (λ es made b. let l : length (part s body p) ≡ p - body = length-part s body p (omega arith) in
+step-elements k x at end unstated depth low le lt inside next nextItems (Bad n) e w =
+    rw (at-bad x at end unstated depth low k n e) (w .0, w .1, omega arith, le)
+step-elements k x at end unstated depth low le lt inside next nextItems (End p) e w =
+    rw (at-end x at end unstated depth low k p e) (w .0, w .1, λ b. tt)
+step-elements k x at end unstated depth low le lt inside next nextItems (Plain tag vr body p) e w =
+    rw (at-plain x at end unstated depth low k tag vr body p e)
+    (sound-with (Well x depth (tag + 1)) (Well x depth low) (elem (placed at body p) tag vr (value (part (x .bytes) body p))) at p end
+    (elementsAt k x p end unstated depth (tag + 1))
+    (λ es made b. let l : length (part (x .bytes) body p) ≡ p - body = length-part (x .bytes) body p (omega arith) in
     (w .3, w .4, (rw l (w .5), rw l (w .6 b)), made b))
     (omega arith) (next p (tag + 1) (w .2) (omega arith)))
-step-elements k s at end marked depth low le lt in-s next nextItems (Seq tag body stop m) e w =
-    rw (at-seq s at end marked depth low k tag body stop m e)
-    (sound-after (WellItems s depth) (Well s depth low) at body stop end (itemsAt k s body stop m depth) _ (omega arith) (w .2)
-    (λ is p madeItems ge up. sound-with (Well s depth (tag + 1)) (Well s depth low) (elem (placed at body p) tag SQ (items is)) at p end
-    (elementsAt k s p end marked depth (tag + 1))
+step-elements k x at end unstated depth low le lt inside next nextItems (Seq tag body stop m) e w =
+    rw (at-seq x at end unstated depth low k tag body stop m e)
+    (sound-after (WellItems x depth) (Well x depth low) at body stop end (itemsAt k x body stop m depth) _ (omega arith) (w .2)
+    (λ is p madeItems ge up. sound-with (Well x depth (tag + 1)) (Well x depth low) (elem (placed at body p) tag SQ (items is)) at p end
+    (elementsAt k x p end unstated depth (tag + 1))
     (λ es made b. (w .3, w .4, (refl, madeItems b), made b))
     (omega arith) (next p (tag + 1) (omega arith) (omega arith)))
     (nextItems stop m (omega arith) body (w .1) (omega arith)))
 
-step-items : (k : ℕ) (s : List ℕ) (at end : ℕ) (marked : Bool) (depth : ℕ) → at ≤ end → end - at < suc k → end ≤ length s
-    → NextItems k s end marked depth → ((stop : ℕ) (m : Bool) → stop ≤ length s → Next k s stop m (depth - 1))
-    → (h : Spot) → h ≡ itemHead s at end marked depth → LiesItem at end depth h → Sound (WellItems s depth) at end (itemsAt (suc k) s at end marked depth)
+step-items : (k : ℕ) (x : Source) (at end : ℕ) (unstated : Bool) (depth : ℕ) → at ≤ end → end - at < suc k → end ≤ length (x .bytes)
+    → NextItems k x end unstated depth → ((stop : ℕ) (m : Bool) → stop ≤ length (x .bytes) → Next k x stop m (depth - 1))
+    → (h : Spot) → h ≡ itemHead (x .bytes) at end unstated depth → LiesItem at end depth h → Sound (WellItems x depth) at end (itemsAt (suc k) x at end unstated depth)
 unfolding MadeItems
-step-items k s at end marked depth le lt in-s nextItems next (Wrong n) e w =
-    rw (at-wrong s at end marked depth k n e) (w .0, w .1, omega arith, le)
-step-items k s at end marked depth le lt in-s nextItems next (Over p) e w =
-    rw (at-over s at end marked depth k p e) (w .0, w .1, λ b. tt)
-step-items k s at end marked depth le lt in-s nextItems next (Item body stop m) e w =
-    rw (at-item s at end marked depth k body stop m e)
-    (sound-after (Well s (depth - 1) 0) (WellItems s depth) at body stop end (elementsAt k s body stop m (depth - 1) 0) _ (omega arith) (w .2)
-    (λ es p made ge up. sound-with (WellItems s depth) (WellItems s depth) (item es) at p end
-    (itemsAt k s p end marked depth)
+step-items k x at end unstated depth le lt inside nextItems next (Wrong n) e w =
+    rw (at-wrong x at end unstated depth k n e) (w .0, w .1, omega arith, le)
+step-items k x at end unstated depth le lt inside nextItems next (Over p) e w =
+    rw (at-over x at end unstated depth k p e) (w .0, w .1, λ b. tt)
+step-items k x at end unstated depth le lt inside nextItems next (Item body stop m) e w =
+    rw (at-item x at end unstated depth k body stop m e)
+    (sound-after (Well x (depth - 1) 0) (WellItems x depth) at body stop end (elementsAt k x body stop m (depth - 1) 0) _ (omega arith) (w .2)
+    (λ es p made ge up. sound-with (WellItems x depth) (WellItems x depth) (item es) at p end
+    (itemsAt k x p end unstated depth)
     (λ is madeItems b. (w .3, made b, madeItems b))
     (omega arith) (nextItems p (omega arith) (omega arith)))
     (next stop m (omega arith) body 0 (w .1) (omega arith)))
 
 mutual
-  elements-sound : (k : ℕ) (s : List ℕ) (end : ℕ) (marked : Bool) (depth : ℕ) → end ≤ length s → Next k s end marked depth
-  elements-sound zero s end marked depth in-s at low le lt = absurd (omega arith)
-  elements-sound (suc k) s end marked depth in-s at low le lt =
-      step-elements k s at end marked depth low le lt in-s (λ a l h i. elements-sound k s end marked depth in-s a l h i)
-      (λ stop m j a h i. items-sound k s stop m depth j a h i)
-      (elementHead s at end marked low) refl (elementHead-lies s at end marked low le)
+  elements-sound : (k : ℕ) (x : Source) (end : ℕ) (unstated : Bool) (depth : ℕ) → end ≤ length (x .bytes) → Next k x end unstated depth
+  elements-sound zero x end unstated depth inside at low le lt = absurd (omega arith)
+  elements-sound (suc k) x end unstated depth inside at low le lt =
+      step-elements k x at end unstated depth low le lt inside (λ a l h i. elements-sound k x end unstated depth inside a l h i)
+      (λ stop m j a h i. items-sound k x stop m depth j a h i)
+      (elementHead x at end unstated low) refl (elementHead-lies x at end unstated low le)
 
-  items-sound : (k : ℕ) (s : List ℕ) (end : ℕ) (marked : Bool) (depth : ℕ) → end ≤ length s → NextItems k s end marked depth
-  items-sound zero s end marked depth in-s at le lt = absurd (omega arith)
-  items-sound (suc k) s end marked depth in-s at le lt =
-      step-items k s at end marked depth le lt in-s (λ a h i. items-sound k s end marked depth in-s a h i)
-      (λ stop m j a l h i. elements-sound k s stop m (depth - 1) j a l h i)
-      (itemHead s at end marked depth) refl (itemHead-lies s at end marked depth le)
+  items-sound : (k : ℕ) (x : Source) (end : ℕ) (unstated : Bool) (depth : ℕ) → end ≤ length (x .bytes) → NextItems k x end unstated depth
+  items-sound zero x end unstated depth inside at le lt = absurd (omega arith)
+  items-sound (suc k) x end unstated depth inside at le lt =
+      step-items k x at end unstated depth le lt inside (λ a h i. items-sound k x end unstated depth inside a h i)
+      (λ stop m j a l h i. elements-sound k x stop m (depth - 1) j a l h i)
+      (itemHead (x .bytes) at end unstated depth) refl (itemHead-lies (x .bytes) at end unstated depth le)
 
-abbrev WellRead : ℕ → List ℕ → Elements Place → Type 0
-WellRead depth s es = AllBytes s → Made depth 0 es
+abbrev WellRead : ℕ → Source → Elements Place → Type 0
+WellRead depth x es = AllBytes (x .bytes) → Made depth 0 es
 
-pub read-sound : (depth : ℕ) (s : List ℕ) → Sound (WellRead depth s) 0 (length s) (read depth s)
+pub read-sound : (depth : ℕ) (x : Source) → Sound (WellRead depth x) 0 (length (x .bytes)) (read depth x)
 unfolding read
-read-sound depth s = elements-sound (suc (length s)) s (length s) false depth (omega arith) 0 0 (omega arith) (omega arith)
+read-sound depth x = elements-sound (suc (length (x .bytes))) x (length (x .bytes)) false depth (omega arith) 0 0 (omega arith) (omega arith)
 
 -- a fault's number is one of document 01's, and its offset is at most the length
-pub read-fault : (depth : ℕ) (s : List ℕ) (n o : ℕ) → read depth s ≡ fault n o → (6 ≤ n) × (n ≤ 10) × (o ≤ length s)
-read-fault depth s n o e =
-    let f : Sound (WellRead depth s) 0 (length s) (fault n o) = rw e at (read-sound depth s) in (f .0, f .1, f .3)
+pub read-fault : (depth : ℕ) (x : Source) (n offset : ℕ) → read depth x ≡ fault n offset → (cutShort ≤ n) × (n ≤ tooDeep) × (offset ≤ length (x .bytes))
+read-fault depth x n offset e =
+    let f : Sound (WellRead depth x) 0 (length (x .bytes)) (fault n offset) = rw e at (read-sound depth x) in (f .0, f .1, f .3)
 
-pub read-made : (depth : ℕ) (s : List ℕ) (es : Elements Place) (p : ℕ) → AllBytes s → read depth s ≡ good es p → Made depth 0 es
-read-made depth s es p b e =
-    let f : Sound (WellRead depth s) 0 (length s) (good es p) = rw e at (read-sound depth s) in f .2 b
+pub read-made : (depth : ℕ) (x : Source) (es : Elements Place) (p : ℕ) → AllBytes (x .bytes) → read depth x ≡ good es p → Made depth 0 es
+read-made depth x es p b e =
+    let f : Sound (WellRead depth x) 0 (length (x .bytes)) (good es p) = rw e at (read-sound depth x) in f .2 b
 
 -- ---- Made
 

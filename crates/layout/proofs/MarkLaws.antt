@@ -20,10 +20,11 @@ use Rattle.basis.proofs.ChoiceLaws.{both-true}
 use Rattle.vr.specs.Names.{SQ}
 use Rattle.vr.specs.Vr.{kindOf}
 use Rattle.vr.specs.declared.Kind.the-variants.{Unknown, Short, Long, Sequence}
-use Rattle.vr.proofs.VrLaws.{kindOf-known, known-two}
+use Rattle.vr.proofs.VrLaws.{kindOf-allVrs, allVrs-two}
+use Rattle.layout.specs.Source.{explicitly}
 use Rattle.layout.specs.Heads.{tagAt, itemTag, itemEnd, sequenceEnd, undefined, allowed, lengthFault, valueHead, sequenceHead, longHead, vrHead, tagHead, elementHead, itemBody, itemAt, itemHead}
 use Rattle.layout.specs.Write.{tagBytes, mark, shortHeader, longHeader, header}
-use Rattle.layout.specs.Made.{room}
+use Rattle.layout.specs.Made.{lengthsBelow}
 use Rattle.layout.specs.declared.Head.{Head}
 use Rattle.layout.specs.declared.Head.the-variants.{Bad, End, Plain, Seq}
 use Rattle.layout.specs.declared.Spot.the-variants.{Wrong, Over, Item}
@@ -108,10 +109,10 @@ allowed-below : (tag : ℕ) → allowed tag ≡ true → tag < 4294836224
 unfolding allowed
 allowed-below tag may = ltb-true tag 4294836224 (both-true (leb 524288 tag) (ltb tag 4294836224) may .1)
 
-module _ (s : List ℕ) (at : ℕ) (marked : Bool) (low tag vr : ℕ) (rises : low ≤ tag) (may : allowed tag ≡ true) where
+module _ (s : List ℕ) (at : ℕ) (unstated : Bool) (low tag vr : ℕ) (rises : low ≤ tag) (may : allowed tag ≡ true) where
   -- the tests before the VR pass
   pub tag-back : (xs : List ℕ) → At s at (tagBytes tag ++ (low2 vr ++ xs)) → vr < 65536 → 8 ≤ length s - at
-      → elementHead s at (length s) marked low ≡ vrHead s at (length s) tag vr
+      → elementHead (explicitly s) at (length s) unstated low ≡ vrHead s at (length s) tag vr
   unfolding elementHead tagHead
   tag-back xs h two left =
       let t : tagAt s at ≡ tag = tagAt-at tag _ (omega (arith, allowed-below tag may)) h in
@@ -125,9 +126,9 @@ module _ (s : List ℕ) (at : ℕ) (marked : Bool) (low tag vr : ℕ) (rises : l
   value-head body n even fits = rw (eq-eqb (n % 2) 0 even, le-ltb (length s - body) n (omega arith))
 
   pub short-back : (n : ℕ) (xs : List ℕ) → kindOf vr ≡ Short → n < 65536 → n % 2 ≡ 0 → n ≤ length xs → At s at (header tag vr n ++ xs)
-      → elementHead s at (length s) marked low ≡ Plain tag vr (at + 8) (at + 8 + n)
+      → elementHead (explicitly s) at (length s) unstated low ≡ Plain tag vr (at + 8) (at + 8 + n)
   short-back n xs kind lt even le h =
-      let two : vr < 65536 = known-two vr (kindOf-known vr (λ e. let z : _≡_ {A = ℕ} 0 1 = cc in omega arith)) in
+      let two : vr < 65536 = allVrs-two vr (kindOf-allVrs vr (λ e. let z : _≡_ {A = ℕ} 0 1 = cc in omega arith)) in
       let b : At s at (tagBytes tag ++ (low2 vr ++ (low2 n ++ xs))) = rw (header-short tag vr n kind) at h in
       let size : at + (8 + length xs) ≡ length s = omega (arith, b .size) in
       let l : le2 s (at + 6) ≡ n = le2-at b 6 ∙ low2-le2 n lt in
@@ -137,7 +138,7 @@ module _ (s : List ℕ) (at : ℕ) (marked : Bool) (low tag vr : ℕ) (rises : l
   -- a header of twelve bytes, and the length in it
   long-head : (n : ℕ) (xs : List ℕ) (holds : Bool) → vr < 65536 → n < 4294967296
       → At s at (tagBytes tag ++ (low2 vr ++ (0 ∷ 0 ∷ (low4 n ++ xs))))
-      → (elementHead s at (length s) marked low ≡ vrHead s at (length s) tag vr)
+      → (elementHead (explicitly s) at (length s) unstated low ≡ vrHead s at (length s) tag vr)
       × (longHead s at (length s) tag vr holds
       ≡ pick holds (sequenceHead tag (at + 12) (length s) n) (valueHead tag vr (at + 12) (length s) n))
       × (at + (12 + length xs) ≡ length s)
@@ -149,27 +150,27 @@ module _ (s : List ℕ) (at : ℕ) (marked : Bool) (low tag vr : ℕ) (rises : l
       (tag-back (0 ∷ 0 ∷ (low4 n ++ xs)) b two (omega arith), rw (le-ltb (length s - at) 12 (omega arith), z, l), size)
 
   pub long-back : (n : ℕ) (xs : List ℕ) → kindOf vr ≡ Long → n < undefined → n % 2 ≡ 0 → n ≤ length xs → At s at (header tag vr n ++ xs)
-      → elementHead s at (length s) marked low ≡ Plain tag vr (at + 12) (at + 12 + n)
+      → elementHead (explicitly s) at (length s) unstated low ≡ Plain tag vr (at + 12) (at + 12 + n)
   long-back n xs kind lt even le h =
-      let two : vr < 65536 = known-two vr (kindOf-known vr (λ e. let z : _≡_ {A = ℕ} 0 1 = cc in omega arith)) in
+      let two : vr < 65536 = allVrs-two vr (kindOf-allVrs vr (λ e. let z : _≡_ {A = ℕ} 0 1 = cc in omega arith)) in
       let b : At s at (tagBytes tag ++ (low2 vr ++ (0 ∷ 0 ∷ (low4 n ++ xs)))) = rw (header-long tag vr n kind) at h in
       let w = long-head n xs false two (omega arith) b in
       w .0 ∙ vrHead-long s at (length s) tag vr kind ∙ w .1 ∙ value-head (at + 12) n even (omega (arith, w .2))
 
   pub sequence-back : (xs : List ℕ) → kindOf vr ≡ Sequence → At s at (header tag vr undefined ++ xs)
-      → elementHead s at (length s) marked low ≡ Seq tag (at + 12) (length s) true
+      → elementHead (explicitly s) at (length s) unstated low ≡ Seq tag (at + 12) (length s) true
   unfolding sequenceHead
   sequence-back xs kind h =
-      let two : vr < 65536 = known-two vr (kindOf-known vr (λ e. let z : _≡_ {A = ℕ} 0 1 = cc in omega arith)) in
+      let two : vr < 65536 = allVrs-two vr (kindOf-allVrs vr (λ e. let z : _≡_ {A = ℕ} 0 1 = cc in omega arith)) in
       let b : At s at (tagBytes tag ++ (low2 vr ++ (0 ∷ 0 ∷ (low4 undefined ++ xs)))) = rw (header-sequence tag vr undefined kind) at h in
       let w = long-head undefined xs true two (omega arith) b in
       w .0 ∙ vrHead-sequence s at (length s) tag vr kind ∙ w .1
 
   pub empty-back : (xs : List ℕ) → kindOf vr ≡ Sequence → At s at (header tag vr 0 ++ xs)
-      → elementHead s at (length s) marked low ≡ Seq tag (at + 12) (at + 12 + 0) false
+      → elementHead (explicitly s) at (length s) unstated low ≡ Seq tag (at + 12) (at + 12 + 0) false
   unfolding sequenceHead lengthFault
   empty-back xs kind h =
-      let two : vr < 65536 = known-two vr (kindOf-known vr (λ e. let z : _≡_ {A = ℕ} 0 1 = cc in omega arith)) in
+      let two : vr < 65536 = allVrs-two vr (kindOf-allVrs vr (λ e. let z : _≡_ {A = ℕ} 0 1 = cc in omega arith)) in
       let b : At s at (tagBytes tag ++ (low2 vr ++ (0 ∷ 0 ∷ (low4 0 ++ xs)))) = rw (header-sequence tag vr 0 kind) at h in
       let w = long-head 0 xs true two (omega arith) b in
       w .0 ∙ vrHead-sequence s at (length s) tag vr kind ∙ w .1 ∙ rw (le-ltb (length s - (at + 12)) 0 (omega arith))
@@ -183,7 +184,7 @@ module _ (s : List ℕ) (at : ℕ) (xs : List ℕ) where
   unfolding mark
   mark-at tag n t l h = (tagAt-at tag (low4 n ++ xs) t h, le4-at h 4 ∙ low4-le4 n l, omega (arith, h .size))
 
-  pub itemEnd-back : (low : ℕ) → At s at (mark itemEnd 0 ++ xs) → elementHead s at (length s) true low ≡ End (at + 8)
+  pub itemEnd-back : (low : ℕ) → At s at (mark itemEnd 0 ++ xs) → elementHead (explicitly s) at (length s) true low ≡ End (at + 8)
   unfolding elementHead
   itemEnd-back low h =
       let m = mark-at itemEnd 0 (omega arith) (omega arith) h in

@@ -1,14 +1,16 @@
 -- What stands at a place of a data set, or the fault there: document 01, "Layout of a data set", refusals 6 to 10 and their order.
 -- Each head makes its tests in that order. The answers are the code's own enums, `Head` and `Spot` of `src/lib.rt`, which says what each
--- case holds; `Bad n` and `Wrong n` are a fault with its refusal's number.
+-- case holds; `Bad n` (at an element) and `Wrong n` (at an item) are a fault with its refusal's number.
 --     tagAt s at                          the tag of four bytes: group × 65,536 + element
 --     itemTag, itemEnd, sequenceEnd       (FFFE,E000), (FFFE,E00D), (FFFE,E0DD)
 --     undefined                           the length FFFFFFFF
 --     allowed tag                         an element may have this tag
 --     lengthFault n left                  the fault of a stated length n with left bytes to the container's end; 0 where there is none
---     elementHead s at end marked low     where an element may stand: in a container that ends at `end`, or, where it is marked, at
---                                         its end mark before that; `low` is the least tag that may stand here
---     itemHead s at end marked depth      where an item may stand: likewise, with `depth` more items allowed to nest
+--     bodyHead e s at end tag             an element's head after its tag: the one definition that the encoding decides
+--     elementHead x at end unstated low   where an element may stand: in a container that ends at `end`, or, where its length is not
+--                                         stated, at its end mark before that; `low` is the least tag that may stand here
+--     itemHead s at end unstated depth    where an item may stand: likewise, with `depth` more items allowed to nest; an item's tag and
+--                                         length are the same in every encoding, so this is told of bytes
 -- Stricter than PS3.5: UN and OB of undefined length are refused (F18). Laws: `proofs/HeadLaws.antt`, `proofs/LiesLaws.antt`. Assumes nothing.
 use mathlib.Core.Bool.{Bool, true, false, not, _&&_}
 use mathlib.Core.List.{List}
@@ -16,8 +18,10 @@ use Prim.Native.Nat.{ℕ, _+_, _-_, _*_, _%_}
 use lib.Dec.{eqb, ltb, leb}
 use Rattle.basis.specs.Choice.{pick}
 use Rattle.basis.specs.Bytes.{le2, le4}
+use Rattle.refusals.specs.Refusals.{cutShort, badTag, badVr, badLength, tooDeep}
 use Rattle.vr.specs.Vr.{kindOf}
 use Rattle.vr.specs.declared.Kind.the-variants.{Unknown, Short, Long, Sequence}
+use Rattle.layout.specs.Source.{Encoding, explicit, Source}
 use Rattle.layout.specs.declared.Head.{Head}
 use Rattle.layout.specs.declared.Head.the-variants.{Bad, End, Plain, Seq}
 use Rattle.layout.specs.declared.Spot.{Spot}
@@ -46,7 +50,7 @@ allowed tag = leb 0x00080000 tag && ltb tag 0xFFFE0000
 
 -- Document 01, Layout, 3rd point, and the shape order: an odd length is 9; then one that passes its container's end is 6
 unfoldable pub lengthFault : ℕ → ℕ → ℕ
-lengthFault n left = pick (eqb (n % 2) 0) (pick (ltb left n) 6 0) 9
+lengthFault n left = pick (eqb (n % 2) 0) (pick (ltb left n) cutShort 0) badLength
 
 -- Document 01, the shape order at an element, the last two tests, of a value of n bytes; FFFFFFFF is odd, so 9 (F18)
 unfoldable pub valueHead : ℕ → ℕ → ℕ → ℕ → ℕ → Head
@@ -62,8 +66,8 @@ sequenceHead tag body end n =
 -- Document 01, Layout, 1st point: a long header has 12 bytes, of which two are zero; then a sequence, or a value
 unfoldable pub longHead : List ℕ → ℕ → ℕ → ℕ → ℕ → Bool → Head
 longHead s at end tag vr holdsItems =
-    pick (ltb (end - at) 12) (Bad 6)
-    (pick (not (eqb (le2 s (at + 6)) 0)) (Bad 8)
+    pick (ltb (end - at) 12) (Bad cutShort)
+    (pick (not (eqb (le2 s (at + 6)) 0)) (Bad badVr)
     (pick holdsItems (sequenceHead tag (at + 12) end (le4 s (at + 8)))
     (valueHead tag vr (at + 12) end (le4 s (at + 8)))))
 
@@ -71,24 +75,28 @@ longHead s at end tag vr holdsItems =
 unfoldable pub vrHead : List ℕ → ℕ → ℕ → ℕ → ℕ → Head
 vrHead s at end tag vr =
     elim (kindOf vr) [
-      | Unknown ↦ Bad 8
+      | Unknown ↦ Bad badVr
       | Short ↦ valueHead tag vr (at + 8) end (le2 s (at + 6))
       | Long ↦ longHead s at end tag vr false
       | Sequence ↦ longHead s at end tag vr true
     ]
 
+-- what follows an element's tag, by the encoding. Explicit: its VR, and what that says
+abbrev pub bodyHead : Encoding → List ℕ → ℕ → ℕ → ℕ → Head
+bodyHead explicit s at end tag = vrHead s at end tag (le2 s (at + 4))
+
 -- Document 01, the shape order at an element, the test of the tag, and what follows
-unfoldable pub tagHead : List ℕ → ℕ → ℕ → ℕ → ℕ → Head
-tagHead s at end tag low = pick (leb low tag && allowed tag) (vrHead s at end tag (le2 s (at + 4))) (Bad 7)
+unfoldable pub tagHead : Source → ℕ → ℕ → ℕ → ℕ → Head
+tagHead x at end tag low = pick (leb low tag && allowed tag) (bodyHead (x .encoding) (x .bytes) at end tag) (Bad badTag)
 
 -- Document 01, the shape order at an element. A container of stated length ends where it is full; where an end mark closes it, that
 -- stands in an element's place (F7).
-unfoldable pub elementHead : List ℕ → ℕ → ℕ → Bool → ℕ → Head
-elementHead s at end marked low =
-    pick (eqb at end && not marked) (End at)
-    (pick (ltb (end - at) 8) (Bad 6)
-    (pick (marked && eqb (tagAt s at) itemEnd) (pick (eqb (le4 s (at + 4)) 0) (End (at + 8)) (Bad 9))
-    (tagHead s at end (tagAt s at) low)))
+unfoldable pub elementHead : Source → ℕ → ℕ → Bool → ℕ → Head
+elementHead x at end unstated low =
+    pick (eqb at end && not unstated) (End at)
+    (pick (ltb (end - at) 8) (Bad cutShort)
+    (pick (unstated && eqb (tagAt (x .bytes) at) itemEnd) (pick (eqb (le4 (x .bytes) (at + 4)) 0) (End (at + 8)) (Bad badLength))
+    (tagHead x at end (tagAt (x .bytes) at) low)))
 
 -- Document 01, the shape order at an item, the last two tests; its elements begin at body
 unfoldable pub itemBody : ℕ → ℕ → ℕ → Spot
@@ -99,12 +107,12 @@ itemBody body end n =
 -- Document 01, the shape order at an item, the tests of tag and depth, and what follows
 unfoldable pub itemAt : List ℕ → ℕ → ℕ → ℕ → ℕ → Spot
 itemAt s at end tag depth =
-    pick (eqb tag itemTag) (pick (eqb depth 0) (Wrong 10) (itemBody (at + 8) end (le4 s (at + 4)))) (Wrong 7)
+    pick (eqb tag itemTag) (pick (eqb depth 0) (Wrong tooDeep) (itemBody (at + 8) end (le4 s (at + 4)))) (Wrong badTag)
 
 -- Document 01, the shape order at an item or mark; a sequence of stated length ends where it is full
 unfoldable pub itemHead : List ℕ → ℕ → ℕ → Bool → ℕ → Spot
-itemHead s at end marked depth =
-    pick (eqb at end && not marked) (Over at)
-    (pick (ltb (end - at) 8) (Wrong 6)
-    (pick (marked && eqb (tagAt s at) sequenceEnd) (pick (eqb (le4 s (at + 4)) 0) (Over (at + 8)) (Wrong 9))
+itemHead s at end unstated depth =
+    pick (eqb at end && not unstated) (Over at)
+    (pick (ltb (end - at) 8) (Wrong cutShort)
+    (pick (unstated && eqb (tagAt s at) sequenceEnd) (pick (eqb (le4 s (at + 4)) 0) (Over (at + 8)) (Wrong badLength))
     (itemAt s at end (tagAt s at) depth)))

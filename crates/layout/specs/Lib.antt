@@ -1,4 +1,5 @@
 pub mod Limits
+pub mod Source
 pub mod Tree
 pub mod Heads
 pub mod Read

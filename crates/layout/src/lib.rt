@@ -8,9 +8,10 @@ ghost use Prim.Native.Nat.{ℕ, _+_, _-_, _≤_, _<_};
 ghost use lib.ListN.{length};
 ghost use Rattle.basis.specs.Bytes.{le2, le4};
 ghost use Rattle.layout.specs.Limits.{deepest};
+ghost use Rattle.layout.specs.Source.{explicitly};
 ghost use Rattle.layout.specs.Heads.{tagAt, lengthFault, valueHead, sequenceHead, longHead, vrHead, tagHead, elementHead, itemBody, itemAt, itemHead};
 ghost use Rattle.layout.specs.Read.{read, shapeOf};
-ghost use Rattle.layout.specs.Walks.{Inside, Within, Walked, WalkedItems};
+ghost use Rattle.layout.specs.Walks.{Inside, Within, deeper, Walked, WalkedItems};
 
 // How many items may nest.
 pub const DEEPEST: u8 = 8;
@@ -31,6 +32,16 @@ pub const UNDEFINED: usize = 0xFFFF_FFFF;
 const FIRST_TAG: u64 = 0x0008_0000;
 
 const NO_TAG: u64 = 0xFFFE_0000;
+
+// Elements that stand side by side, or items: where they begin, where they have to stop, whether an end mark closes them before that, and
+// how many more items may nest in them. A walk takes it as one thing, and reads it but does not change it, so what else a walk has to know
+// of its container will be a field here, and no parameter of the walks.
+pub struct Container {
+    pub from: usize,
+    pub end: usize,
+    pub unstated: bool,
+    pub depth: u8,
+}
 
 // What stands where an element may.
 pub enum Head {
@@ -87,15 +98,15 @@ pub fn tag_at(s: &[u8], at: usize) -> u64
     u16_at(s, at) * 65536 + u16_at(s, at + 2)
 }
 
-// The fault of a stated length with `left` bytes to the container's end, or 0: odd (9), then past the end (6).
+// The fault of a stated length with `left` bytes to the container's end, or 0: an odd one first, then one past the end.
 fn length_fault(n: usize, left: usize) -> u8
     ensures { λ r. ⌜ r ≡ lengthFault n left ⌝ }
 {
     if n % 2 != 0 {
-        return 9;
+        return refusals::BAD_LENGTH;
     }
     if left < n {
-        return 6;
+        return refusals::CUT_SHORT;
     }
     0
 }
@@ -136,11 +147,11 @@ fn long_head(s: &[u8], at: usize, end: usize, tag: u64, vr: u64, items: bool) ->
     ensures { λ r. ⌜ Inside at end r ⌝ }
 {
     if end - at < 12 {
-        return Head::Bad(6);
+        return Head::Bad(refusals::CUT_SHORT);
     }
     let zeros = u16_at(s, at + 6);
     if zeros != 0 {
-        return Head::Bad(8);
+        return Head::Bad(refusals::BAD_VR);
     }
     let n = u32_at(s, at + 8) as usize;
     if items {
@@ -158,7 +169,7 @@ fn vr_head(s: &[u8], at: usize, end: usize, tag: u64) -> Head
     let vr = u16_at(s, at + 4);
     let kind = vr::kind_of(vr);
     match kind {
-        Kind::Unknown => Head::Bad(8),
+        Kind::Unknown => Head::Bad(refusals::BAD_VR),
         Kind::Short => {
             let n = u16_at(s, at + 6) as usize;
             value_head(tag, vr, at + 8, end, n)
@@ -171,43 +182,43 @@ fn vr_head(s: &[u8], at: usize, end: usize, tag: u64) -> Head
 // An element's head, from its tag on.
 fn tag_head(s: &[u8], at: usize, end: usize, tag: u64, low: u64) -> Head
     requires { ⌜ (at + 8 ≤ end) × (end ≤ length (now s)) × (tag < 4294967296) ⌝ }
-    ensures { λ r. ⌜ r ≡ tagHead (now (s .entry)) at end tag low ⌝ }
+    ensures { λ r. ⌜ r ≡ tagHead (explicitly (now (s .entry))) at end tag low ⌝ }
     ensures { λ r. ⌜ Inside at end r ⌝ }
 {
     if tag < low {
-        return Head::Bad(7);
+        return Head::Bad(refusals::BAD_TAG);
     }
     if tag < FIRST_TAG {
-        return Head::Bad(7);
+        return Head::Bad(refusals::BAD_TAG);
     }
     if NO_TAG <= tag {
-        return Head::Bad(7);
+        return Head::Bad(refusals::BAD_TAG);
     }
     vr_head(s, at, end, tag)
 }
 
-// What stands at `at` in a container of elements that ends at `end`, or, where it is marked, at its end mark before that.
+// What stands at `at` in a container of elements that ends at `end`, or, where its length is not stated, at its end mark before that.
 // The next tag has to be `low` at least.
-pub fn element_head(s: &[u8], at: usize, end: usize, marked: bool, low: u64) -> Head
+pub fn element_head(s: &[u8], at: usize, end: usize, unstated: bool, low: u64) -> Head
     requires { ⌜ (at ≤ end) × (end ≤ length (now s)) ⌝ }
-    ensures { λ r. ⌜ r ≡ elementHead (now (s .entry)) at end marked low ⌝ }
+    ensures { λ r. ⌜ r ≡ elementHead (explicitly (now (s .entry))) at end unstated low ⌝ }
     ensures { λ r. ⌜ Inside at end r ⌝ }
 {
     if end - at < 8 {
         if at == end {
-            if marked {
-                return Head::Bad(6);
+            if unstated {
+                return Head::Bad(refusals::CUT_SHORT);
             }
             return Head::End(at);
         }
-        return Head::Bad(6);
+        return Head::Bad(refusals::CUT_SHORT);
     }
     let tag = tag_at(s, at);
-    if marked {
+    if unstated {
         if tag == ITEM_END {
             let n = u32_at(s, at + 4);
             if n != 0 {
-                return Head::Bad(9);
+                return Head::Bad(refusals::BAD_LENGTH);
             }
             return Head::End(at + 8);
         }
@@ -239,36 +250,36 @@ fn item_at(s: &[u8], at: usize, end: usize, tag: u64, depth: u8) -> Spot
     ensures { λ r. ⌜ Within at end depth r ⌝ }
 {
     if tag != ITEM {
-        return Spot::Wrong(7);
+        return Spot::Wrong(refusals::BAD_TAG);
     }
     if depth == 0 {
-        return Spot::Wrong(10);
+        return Spot::Wrong(refusals::TOO_DEEP);
     }
     let n = u32_at(s, at + 4) as usize;
     item_body(at + 8, end, n)
 }
 
-// What stands at `at` in a sequence that ends at `end`, or, where it is marked, at its end mark before that.
-pub fn item_head(s: &[u8], at: usize, end: usize, marked: bool, depth: u8) -> Spot
+// What stands at `at` in a sequence that ends at `end`, or, where its length is not stated, at its end mark before that.
+pub fn item_head(s: &[u8], at: usize, end: usize, unstated: bool, depth: u8) -> Spot
     requires { ⌜ (at ≤ end) × (end ≤ length (now s)) ⌝ }
-    ensures { λ r. ⌜ r ≡ itemHead (now (s .entry)) at end marked depth ⌝ }
+    ensures { λ r. ⌜ r ≡ itemHead (now (s .entry)) at end unstated depth ⌝ }
     ensures { λ r. ⌜ Within at end depth r ⌝ }
 {
     if end - at < 8 {
         if at == end {
-            if marked {
-                return Spot::Wrong(6);
+            if unstated {
+                return Spot::Wrong(refusals::CUT_SHORT);
             }
             return Spot::Over(at);
         }
-        return Spot::Wrong(6);
+        return Spot::Wrong(refusals::CUT_SHORT);
     }
     let tag = tag_at(s, at);
-    if marked {
+    if unstated {
         if tag == SEQUENCE_END {
             let n = u32_at(s, at + 4);
             if n != 0 {
-                return Spot::Wrong(9);
+                return Spot::Wrong(refusals::BAD_LENGTH);
             }
             return Spot::Over(at + 8);
         }
@@ -277,15 +288,15 @@ pub fn item_head(s: &[u8], at: usize, end: usize, marked: bool, depth: u8) -> Sp
     item_at(s, at, end, tag, depth)
 }
 
-// The elements of a container, from `from` on.
-fn elements(s: &[u8], from: usize, end: usize, marked: bool, depth: u8) -> Shape
-    requires { ⌜ (from ≤ end) × (end ≤ length (now s)) ⌝ }
-    ensures { λ r. ⌜ Walked (now (s .entry)) from end marked depth r ⌝ }
+// The elements of a container.
+fn elements(s: &[u8], c: Container) -> Shape
+    requires { ⌜ (c .from ≤ c .end) × (c .end ≤ length (now s)) ⌝ }
+    ensures { λ r. ⌜ Walked (explicitly (now (s .entry))) c r ⌝ }
 {
-    let mut at = from;
+    let mut at = c.from;
     let mut low: u64 = 0;
     loop {
-        let h = element_head(s, at, end, marked, low);
+        let h = element_head(s, at, c.end, c.unstated, low);
         match h {
             Head::Bad(n) => return Shape::Fault(n, at),
             Head::End(past) => return Shape::Fine(past),
@@ -294,9 +305,15 @@ fn elements(s: &[u8], from: usize, end: usize, marked: bool, depth: u8) -> Shape
                 low = tag + 1;
             }
             Head::Seq(tag, body, stop, m) => {
-                let q = sequence(s, body, stop, m, depth);
+                let held = Container {
+                    from: body,
+                    end: stop,
+                    unstated: m,
+                    depth: c.depth,
+                };
+                let q = sequence(s, held);
                 match q {
-                    Shape::Fault(n, o) => return Shape::Fault(n, o),
+                    Shape::Fault(n, offset) => return Shape::Fault(n, offset),
                     Shape::Fine(past) => {
                         at = past;
                         low = tag + 1;
@@ -307,21 +324,27 @@ fn elements(s: &[u8], from: usize, end: usize, marked: bool, depth: u8) -> Shape
     }
 }
 
-// The items of a sequence, from `from` on.
-pub fn sequence(s: &[u8], from: usize, end: usize, marked: bool, depth: u8) -> Shape
-    requires { ⌜ (from ≤ end) × (end ≤ length (now s)) ⌝ }
-    ensures { λ r. ⌜ WalkedItems (now (s .entry)) from end marked depth r ⌝ }
+// The items of a sequence.
+pub fn sequence(s: &[u8], c: Container) -> Shape
+    requires { ⌜ (c .from ≤ c .end) × (c .end ≤ length (now s)) ⌝ }
+    ensures { λ r. ⌜ WalkedItems (explicitly (now (s .entry))) c r ⌝ }
 {
-    let mut at = from;
+    let mut at = c.from;
     loop {
-        let h = item_head(s, at, end, marked, depth);
+        let h = item_head(s, at, c.end, c.unstated, c.depth);
         match h {
             Spot::Wrong(n) => return Shape::Fault(n, at),
             Spot::Over(past) => return Shape::Fine(past),
             Spot::Item(body, stop, m) => {
-                let q = item(s, body, stop, m, depth);
+                let held = Container {
+                    from: body,
+                    end: stop,
+                    unstated: m,
+                    depth: c.depth,
+                };
+                let q = item(s, held);
                 match q {
-                    Shape::Fault(n, o) => return Shape::Fault(n, o),
+                    Shape::Fault(n, offset) => return Shape::Fault(n, offset),
                     Shape::Fine(past) => {
                         at = past;
                     }
@@ -331,17 +354,30 @@ pub fn sequence(s: &[u8], from: usize, end: usize, marked: bool, depth: u8) -> S
     }
 }
 
-// The elements of one item.
-fn item(s: &[u8], body: usize, stop: usize, marked: bool, depth: u8) -> Shape
-    requires { ⌜ (body ≤ stop) × (stop ≤ length (now s)) × (0 < depth) ⌝ }
-    ensures { λ r. ⌜ Walked (now (s .entry)) body stop marked (depth - 1) r ⌝ }
+// The elements of one item of a sequence in which `c.depth` more items may nest: inside it, one fewer.
+fn item(s: &[u8], c: Container) -> Shape
+    requires { ⌜ (c .from ≤ c .end) × (c .end ≤ length (now s)) × (0 < c .depth) ⌝ }
+    ensures { λ r. ⌜ Walked (explicitly (now (s .entry))) (deeper c) r ⌝ }
 {
-    elements(s, body, stop, marked, depth - 1)
+    let depth = c.depth - 1;
+    let held = Container {
+        from: c.from,
+        end: c.end,
+        unstated: c.unstated,
+        depth: depth,
+    };
+    elements(s, held)
 }
 
 // The shape of a data set: no fault, or the first one.
 pub fn shape_of(s: &[u8]) -> Shape
-    ensures { λ r. ⌜ r ≡ shapeOf (read deepest (now (s .entry))) ⌝ }
+    ensures { λ r. ⌜ r ≡ shapeOf (read deepest (explicitly (now (s .entry)))) ⌝ }
 {
-    elements(s, 0, s.len(), false, DEEPEST)
+    let whole = Container {
+        from: 0,
+        end: s.len(),
+        unstated: false,
+        depth: DEEPEST,
+    };
+    elements(s, whole)
 }

@@ -3,25 +3,19 @@ use mathlib.Core.Path.{_≡_, refl}
 use mathlib.Core.List.{List, [], _∷_, _++_, map}
 use native.Mathlib.Decide.{ℕ-discrete}
 use Prim.Native.Nat.{ℕ, _+_, _*_}
-use Prim.Native.Char.{code}
-use Prim.Native.String.{String, [] as ended, _∷_ as led}
 use lib.ListN.{replicate}
+use Rattle.basis.specs.Text.{ascii}
 use Rattle.buffer.specs.Buffer.{laid, cleared}
-use Rattle.ledger.specs.Names.{place, number, learn, learns, numbers, sameName}
+use Rattle.ledger.specs.FirstMet.{firstAt, numberOf, learn, learns, numbers, sameUid}
 use Rattle.ledger.specs.Slots.{slotSize, slotsOf, slotOf, slotsIn, flat}
-use Rattle.ledger.specs.Answer.{slotFor, ledgerFor}
+use Rattle.ledger.specs.SlotFor.{slotFor, ledgerFor}
 use Rattle.ledger.specs.declared.Slot.the-variants.{Full, At}
 
--- the bytes of a text
-abbrev text : String → List ℕ
-text ended = []
-text (led c s) = code c ∷ text s
-
 abbrev a : List ℕ
-a = text "1.2.3"
+a = ascii "1.2.3"
 
 abbrev b : List ℕ
-b = text "1.2.4"
+b = ascii "1.2.4"
 
 -- n bytes of zero
 abbrev zeros : ℕ → List ℕ
@@ -33,9 +27,9 @@ holding us = flat (map slotOf us)
 
 pub cases :
     -- numbers by first appearance, of UIDs and of slots
-    (numbers sameName [] (a ∷ b ∷ a ∷ []) ≡ 1 ∷ 2 ∷ 1 ∷ [])
-    × (numbers sameName [] (map slotOf (a ∷ b ∷ a ∷ [])) ≡ 1 ∷ 2 ∷ 1 ∷ [])
-    × (learns sameName (b ∷ []) (a ∷ b ∷ a ∷ []) ≡ b ∷ a ∷ [])
+    (numbers sameUid [] (a ∷ b ∷ a ∷ []) ≡ 1 ∷ 2 ∷ 1 ∷ [])
+    × (numbers sameUid [] (map slotOf (a ∷ b ∷ a ∷ [])) ≡ 1 ∷ 2 ∷ 1 ∷ [])
+    × (learns sameUid (b ∷ []) (a ∷ b ∷ a ∷ []) ≡ b ∷ a ∷ [])
     -- how many slots: none; none in 63 bytes; one in 64; one with a ragged end
     × (slotsOf [] ≡ 0)
     × (slotsOf (zeros 63) ≡ 0)
@@ -55,5 +49,5 @@ pub cases :
     -- past the count in use nothing is looked at, and all is zeroed, a ragged end too (U8, U9)
     × (slotFor (holding (b ∷ a ∷ [])) 1 (slotOf a) ≡ At 2 2)
     × (cleared (holding (b ∷ a ∷ []) ++ 7 ∷ []) (slotSize * 1) ≡ slotOf b ++ zeros 65)
-unfolding place number learn learns numbers sameName ℕ-discrete slotOf slotsIn flat slotFor ledgerFor laid cleared
+unfolding firstAt numberOf learn learns numbers sameUid ℕ-discrete slotOf slotsIn flat slotFor ledgerFor laid cleared
 cases = (refl, refl, refl, refl, refl, refl, refl, refl, refl, refl, refl, refl, refl, refl, refl, refl, refl, refl)

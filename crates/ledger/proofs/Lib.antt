@@ -1,7 +1,7 @@
-pub mod NamesLaws
+pub mod FirstMetLaws
 pub mod RenameLaws
 pub mod LaidLaws
 pub mod SlotLaws
 pub mod SearchTurns
-pub mod AnswerLaws
+pub mod SlotForLaws
 pub mod Cases

@@ -1,32 +1,32 @@
--- Names that are renamed one-to-one keep their places and numbers, and names of equal numbers are renamed ones: laws of
--- `specs/Names.antt` between two types of names. No contract cites this file. Assumes nothing.
---     map-agree, map-member                   functions that agree on the names of a list; one that keeps a list
---     Undone f g l                            g undoes f on the names of l, so that f is one-to-one there
---     undone-learn, undone-learns             as names are learnt
---     place-rename, number-rename, learn-rename, learns-rename
---     numbers-rename                          renamed names get the same numbers
+-- UIDs that are renamed one-to-one keep their places and numbers, and UIDs of equal numbers are renamed ones: laws of
+-- `specs/FirstMet.antt` between two types that stand for UIDs. No contract cites this file. Assumes nothing.
+--     map-agree, map-member                   functions that agree on the members of a list; one that keeps a list
+--     Undone f g l                            g undoes f on the UIDs of l, so that f is one-to-one there
+--     undone-learn, undone-learns             as UIDs are learnt
+--     firstAt-rename, numberOf-rename, learn-rename, learns-rename
+--     numbers-rename                          renamed UIDs get the same numbers
 --     numbers-alike                           THEOREM: two lists get the same numbers exactly where one renaming takes the one to the other
 --                                             and another takes it back
 use mathlib.Core.Path.{_≡_, refl, sym, ap, ap₂, _∙_}
 use mathlib.Core.Logic.{ite, _⊎_, inl, inr, _↔_}
 use mathlib.Core.List.{List, [], _∷_, map, map-map, map-id, head-eq-of-cons-eq, tail-eq-of-cons-eq, List·Memᴰ, List·Memᴰ·head, List·Memᴰ·tail, List·Memᴰ·not-nil, List·Memᴰ·cases-cons}
 use Prim.Native.Nat.{zero, suc}
-use Rattle.ledger.specs.Names.{place, number, learn, learns, numbers}
-use Rattle.ledger.proofs.NamesLaws.{begins-refl, learns-member, named, named-number, numbers-final}
+use Rattle.ledger.specs.FirstMet.{firstAt, numberOf, learn, learns, numbers}
+use Rattle.ledger.proofs.FirstMetLaws.{begins-refl, learns-member, standsFor, standsFor-numberOf, numbers-final}
 
 -- ---- map
 
--- two functions that agree on the names agree on the list
+-- two functions that agree on the members agree on the list
 pub map-agree : {X Y : Type 0} (f g : X → Y) (us : List X) → ((u : X) → List·Memᴰ u us → f u ≡ g u) → map f us ≡ map g us
 map-agree f g [] h = refl
 map-agree {X} {Y} f g (u ∷ us) h = ap₂ (λ (y : Y) (l : List Y). y ∷ l) (h u (List·Memᴰ·head refl)) (map-agree f g us (λ w m. h w (List·Memᴰ·tail m)))
 
--- a function that keeps a list keeps each of its names
+-- a function that keeps a list keeps each of its members
 pub map-member : {X : Type 0} (f : X → X) (us : List X) → map f us ≡ us → (u : X) → List·Memᴰ u us → f u ≡ u
 map-member f (w ∷ us) e u (List·Memᴰ·head p) = ap f p ∙ (head-eq-of-cons-eq e ∙ sym p)
 map-member f (w ∷ us) e u (List·Memᴰ·tail m) = map-member f us (tail-eq-of-cons-eq e) u m
 
--- ---- renamed names
+-- ---- renamed UIDs
 
 module _ {X Y : Type 0} (sameX : Discrete X) (sameY : Discrete Y) (f : X → Y) (g : Y → X) where
   abbrev pub Undone : List X → Type 0
@@ -38,21 +38,21 @@ module _ {X Y : Type 0} (sameX : Discrete X) (sameY : Discrete Y) (f : X → Y) 
   one-to-one : {x u : X} → g (f x) ≡ x → g (f u) ≡ u → f x ≡ f u → x ≡ u
   one-to-one p q e = sym p ∙ (ap g e ∙ q)
 
-  pub place-rename : (l : List X) (u : X) → Undone l → g (f u) ≡ u → place sameY (map f l) (f u) ≡ place sameX l u
-  unfolding place
-  place-rename [] u h k = refl
-  place-rename (x ∷ xs) u h k = step (sameX x u) (sameY (f x) (f u)) (place-rename xs u (undone-tail h) k)
+  pub firstAt-rename : (l : List X) (u : X) → Undone l → g (f u) ≡ u → firstAt sameY (map f l) (f u) ≡ firstAt sameX l u
+  unfolding firstAt
+  firstAt-rename [] u h k = refl
+  firstAt-rename (x ∷ xs) u h k = step (sameX x u) (sameY (f x) (f u)) (firstAt-rename xs u (undone-tail h) k)
     where
-      step : (d : Dec (x ≡ u)) (e : Dec (f x ≡ f u)) → place sameY (map f xs) (f u) ≡ place sameX xs u
-          → ite e zero (suc (place sameY (map f xs) (f u))) ≡ ite d zero (suc (place sameX xs u))
+      step : (d : Dec (x ≡ u)) (e : Dec (f x ≡ f u)) → firstAt sameY (map f xs) (f u) ≡ firstAt sameX xs u
+          → ite e zero (suc (firstAt sameY (map f xs) (f u))) ≡ ite d zero (suc (firstAt sameX xs u))
       step (yes p) (yes q) ih = refl
       step (yes p) (no n) ih = absurd (n (ap f p))
       step (no n) (yes q) ih = absurd (n (one-to-one (h x (List·Memᴰ·head refl)) k q))
       step (no n) (no o) ih = ap suc ih
 
-  pub number-rename : (l : List X) (u : X) → Undone l → g (f u) ≡ u → number sameY (map f l) (f u) ≡ number sameX l u
-  unfolding number
-  number-rename l u h k = ap suc (place-rename l u h k)
+  pub numberOf-rename : (l : List X) (u : X) → Undone l → g (f u) ≡ u → numberOf sameY (map f l) (f u) ≡ numberOf sameX l u
+  unfolding numberOf
+  numberOf-rename l u h k = ap suc (firstAt-rename l u h k)
 
   pub learn-rename : (l : List X) (u : X) → Undone l → g (f u) ≡ u → learn sameY (map f l) (f u) ≡ map f (learn sameX l u)
   unfolding learn
@@ -102,26 +102,26 @@ module _ {X Y : Type 0} (sameX : Discrete X) (sameY : Discrete Y) (f : X → Y) 
   numbers-rename l (u ∷ us) h k =
       let q : g (f u) ≡ u = k u (List·Memᴰ·head refl) in
       let j : Undone (learn sameX l u) = undone-learn l u h q in
-      ap (λ (m : List Y). number sameY m (f u) ∷ numbers sameY m (map f us)) (learn-rename l u h q)
-      ∙ ap₂ _∷_ (number-rename (learn sameX l u) u j q) (numbers-rename (learn sameX l u) us j (undone-tail k))
+      ap (λ (m : List Y). numberOf sameY m (f u) ∷ numbers sameY m (map f us)) (learn-rename l u h q)
+      ∙ ap₂ _∷_ (numberOf-rename (learn sameX l u) u j q) (numbers-rename (learn sameX l u) us j (undone-tail k))
 
 -- ---- numbers
 
 module _ {X : Type 0} (same : Discrete X) (d : X) where
-  -- the name of one list that has the number of a name of another
+  -- the UID of one list that has the number of a UID of another
   across : List X → List X → X → X
-  across us ws u = named same (learns same [] ws) d (number same (learns same [] us) u)
+  across us ws u = standsFor same (learns same [] ws) d (numberOf same (learns same [] us) u)
 
   there : (us ws : List X) → numbers same [] us ≡ numbers same [] ws → map (across us ws) us ≡ ws
   unfolding across
   there us ws e =
       let m : List X = learns same [] us in
       let n : List X = learns same [] ws in
-      let k : map (number same m) us ≡ map (number same n) ws = sym (numbers-final same [] us m (begins-refl m)) ∙ (e ∙ numbers-final same [] ws n (begins-refl n)) in
-      sym (map-map (named same n d) (number same m) us)
-      ∙ (ap (map (named same n d)) k
-      ∙ (map-map (named same n d) (number same n) ws
-      ∙ (map-agree _ (λ u. u) ws (λ u h. named-number same n d u (learns-member same [] ws u h))
+      let k : map (numberOf same m) us ≡ map (numberOf same n) ws = sym (numbers-final same [] us m (begins-refl m)) ∙ (e ∙ numbers-final same [] ws n (begins-refl n)) in
+      sym (map-map (standsFor same n d) (numberOf same m) us)
+      ∙ (ap (map (standsFor same n d)) k
+      ∙ (map-map (standsFor same n d) (numberOf same n) ws
+      ∙ (map-agree _ (λ u. u) ws (λ u h. standsFor-numberOf same n d u (learns-member same [] ws u h))
       ∙ map-id ws)))
 
   back : (us ws : List X) (f g : X → X) → map f us ≡ ws → map g ws ≡ us → numbers same [] us ≡ numbers same [] ws

@@ -12,10 +12,10 @@ use native.Mathlib.Omega.{arith}
 use borrow.Author.Count.{below-more}
 use lib.ListN.{length, take, drop, getD, length-drop}
 use lib.Seq.{length-take-le, getD-take, getD-drop, ext-getD}
-use Rattle.ledger.specs.Names.{place, sameName}
+use Rattle.ledger.specs.FirstMet.{firstAt, sameUid}
 use Rattle.ledger.specs.Slots.{slotSize, slotsIn}
-use Rattle.ledger.specs.Answer.{holds}
-use Rattle.ledger.proofs.NamesLaws.{place-yes, place-no}
+use Rattle.ledger.specs.SlotFor.{holds}
+use Rattle.ledger.proofs.FirstMetLaws.{firstAt-yes, firstAt-no}
 use Rattle.ledger.proofs.SlotLaws.{slotsIn-from}
 
 -- ---- same_slot
@@ -57,8 +57,8 @@ module _ {l key : List ℕ} {at i : ℕ} {same : Bool} (w : Compared l key at i 
   alike : take slotSize (drop at l) ≡ key → Alike l key at i
   alike e k lt = sym (getD-take slotSize (drop at l) k 0 (omega (arith, w .upto)) ∙ getD-drop at l k 0) ∙ ap (λ z. getD z k 0) e
 
-  pub compared-end : same ≡ holds (sameName (take slotSize (drop at l)) key)
-  compared-end = step same (w .told) (sameName (take slotSize (drop at l)) key)
+  pub compared-end : same ≡ holds (sameUid (take slotSize (drop at l)) key)
+  compared-end = step same (w .told) (sameUid (take slotSize (drop at l)) key)
     where
       step : (b : Bool) → Told b (Alike l key at i) → (d : Dec (take slotSize (drop at l) ≡ key)) → b ≡ holds d
       step true a (yes p) = refl
@@ -78,30 +78,30 @@ holds-no (no n) e q = n q
 
 pub record Searched (l : List ℕ) (used : ℕ) (key : List ℕ) (i : ℕ) : Type 0 where
   pub upto : i ≤ used
-  pub rest : place sameName (slotsIn l used) key ≡ i + place sameName (slotsIn (drop (slotSize * i) l) (used - i)) key
+  pub rest : firstAt sameUid (slotsIn l used) key ≡ i + firstAt sameUid (slotsIn (drop (slotSize * i) l) (used - i)) key
 
 pub searched-start : (l : List ℕ) (used : ℕ) (key : List ℕ) → Searched l used key 0
 searched-start l used key =
     let e : used - 0 ≡ used = omega arith in
-    let f : 0 + place sameName (slotsIn l used) key ≡ place sameName (slotsIn l used) key = omega arith in
+    let f : 0 + firstAt sameUid (slotsIn l used) key ≡ firstAt sameUid (slotsIn l used) key = omega arith in
     record { upto = omega arith; rest = rw e (sym f) }
 
 module _ {l : List ℕ} {used : ℕ} {key : List ℕ} {i : ℕ} (w : Searched l used key i) where
-  pub searched-end : used ≤ i → i ≡ place sameName (slotsIn l used) key
-  unfolding slotsIn place
+  pub searched-end : used ≤ i → i ≡ firstAt sameUid (slotsIn l used) key
+  unfolding slotsIn firstAt
   searched-end h =
       let e : used - i ≡ 0 = omega arith in
-      let f : place sameName (slotsIn (drop (slotSize * i) l) (used - i)) key ≡ 0 = rw e refl in
+      let f : firstAt sameUid (slotsIn (drop (slotSize * i) l) (used - i)) key ≡ 0 = rw e refl in
       omega (arith, w .upto, w .rest, f)
 
-  module _ (lt : i < used) {r : Bool} (is : r ≡ holds (sameName (take slotSize (drop (slotSize * i) l)) key)) where
-    pub searched-found : r ≡ true → i ≡ place sameName (slotsIn l used) key
+  module _ (lt : i < used) {r : Bool} (is : r ≡ holds (sameUid (take slotSize (drop (slotSize * i) l)) key)) where
+    pub searched-found : r ≡ true → i ≡ firstAt sameUid (slotsIn l used) key
     searched-found e =
         omega (
           arith,
           w .rest,
-          ap (λ z. place sameName z key) (slotsIn-from l used i lt)
-              ∙ place-yes sameName _ _ key (holds-yes (sameName (take slotSize (drop (slotSize * i) l)) key) (sym e ∙ is)),
+          ap (λ z. firstAt sameUid z key) (slotsIn-from l used i lt)
+              ∙ firstAt-yes sameUid _ _ key (holds-yes (sameUid (take slotSize (drop (slotSize * i) l)) key) (sym e ∙ is)),
         )
 
     pub searched-more : r ≡ false → Searched l used key (i + 1)
@@ -111,7 +111,7 @@ module _ {l : List ℕ} {used : ℕ} {key : List ℕ} {i : ℕ} (w : Searched l 
           omega (
             arith,
             w .rest,
-            ap (λ z. place sameName z key) (slotsIn-from l used i lt)
-                ∙ place-no sameName _ _ key (holds-no (sameName (take slotSize (drop (slotSize * i) l)) key) (sym e ∙ is)),
+            ap (λ z. firstAt sameUid z key) (slotsIn-from l used i lt)
+                ∙ firstAt-no sameUid _ _ key (holds-no (sameUid (take slotSize (drop (slotSize * i) l)) key) (sym e ∙ is)),
           );
     }

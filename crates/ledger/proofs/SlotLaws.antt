@@ -8,7 +8,7 @@
 --     flat-slotsIn, flat-append, flat-learn, flat-learns     the bytes of slots
 --     Sized, length-flat, sized-slotsIn, sized-learn, sized-learns     slots of 64 bytes each
 --     freeAll-member, slots-undone
---     learns-slots, numbers-slots     THEOREM: numbering among slots is numbering among UIDs, of names without a zero byte
+--     learns-slots, numbers-slots     THEOREM: numbering among slots is numbering among UIDs, of those without a zero byte
 use mathlib.Core.Path.{_≡_, refl, sym, ap, ap₂, _∙_}
 use mathlib.Core.Logic.{ite}
 use mathlib.Core.List.{List, [], _∷_, _++_, map, append-assoc, List·Memᴰ, List·Memᴰ·head, List·Memᴰ·tail}
@@ -24,7 +24,7 @@ use Rattle.basis.proofs.BytesLaws.{length-part}
 use Rattle.basis.proofs.PiecesLaws.{Free, FreeAll}
 use Rattle.buffer.specs.Buffer.{laid}
 use Rattle.buffer.proofs.Laws.{laid-whole}
-use Rattle.ledger.specs.Names.{learn, learns, numbers, sameName}
+use Rattle.ledger.specs.FirstMet.{learn, learns, numbers, sameUid}
 use Rattle.ledger.specs.Slots.{slotSize, mostSlots, slotsOf, slotOf, slotsIn, flat}
 use Rattle.ledger.proofs.LaidLaws.{laid-zeros, take-laid-le, drop-laid}
 use Rattle.ledger.proofs.RenameLaws.{Undone, learns-rename, numbers-rename}
@@ -120,19 +120,19 @@ flat-append [] js = refl
 flat-append (k ∷ ks) js = ap (λ z. k ++ z) (flat-append ks js) ∙ sym (append-assoc k (flat ks) (flat js))
 
 -- as slots are learnt the bytes grow
-pub flat-learn : (ks : List (List ℕ)) (x : List ℕ) → length (flat ks) ≤ length (flat (learn sameName ks x))
+pub flat-learn : (ks : List (List ℕ)) (x : List ℕ) → length (flat ks) ≤ length (flat (learn sameUid ks x))
 unfolding flat learn
 flat-learn [] x = omega arith
-flat-learn (k ∷ ks) x = step (sameName k x) (flat-learn ks x)
+flat-learn (k ∷ ks) x = step (sameUid k x) (flat-learn ks x)
   where
-    step : (d : Dec (k ≡ x)) → length (flat ks) ≤ length (flat (learn sameName ks x)) → length (k ++ flat ks) ≤ length (k ++ flat (ite d ks (learn sameName ks x)))
+    step : (d : Dec (k ≡ x)) → length (flat ks) ≤ length (flat (learn sameUid ks x)) → length (k ++ flat ks) ≤ length (k ++ flat (ite d ks (learn sameUid ks x)))
     step (yes p) ih = omega arith
-    step (no n) ih = omega (arith, length-append k (flat ks), length-append k (flat (learn sameName ks x)), ih)
+    step (no n) ih = omega (arith, length-append k (flat ks), length-append k (flat (learn sameUid ks x)), ih)
 
-pub flat-learns : (ks xs : List (List ℕ)) → length (flat ks) ≤ length (flat (learns sameName ks xs))
+pub flat-learns : (ks xs : List (List ℕ)) → length (flat ks) ≤ length (flat (learns sameUid ks xs))
 unfolding learns
 flat-learns ks [] = omega arith
-flat-learns ks (x ∷ xs) = omega (arith, flat-learn ks x, flat-learns (learn sameName ks x) xs)
+flat-learns ks (x ∷ xs) = omega (arith, flat-learn ks x, flat-learns (learn sameUid ks x) xs)
 
 -- none of ks has another size
 abbrev pub Sized : List (List ℕ) → Type 0
@@ -149,19 +149,19 @@ unfolding slotsIn
 sized-slotsIn l zero h = tt
 sized-slotsIn l (suc n) h = (length-take-le slotSize l (omega arith), sized-slotsIn (drop slotSize l) n (simp length-drop (omega arith)))
 
-pub sized-learn : (ks : List (List ℕ)) (x : List ℕ) → Sized ks → length x ≡ slotSize → Sized (learn sameName ks x)
+pub sized-learn : (ks : List (List ℕ)) (x : List ℕ) → Sized ks → length x ≡ slotSize → Sized (learn sameUid ks x)
 unfolding learn
 sized-learn [] x s h = (h, tt)
-sized-learn (k ∷ ks) x s h = (s .0, step (sameName k x) (sized-learn ks x (s .1) h))
+sized-learn (k ∷ ks) x s h = (s .0, step (sameUid k x) (sized-learn ks x (s .1) h))
   where
-    step : (d : Dec (k ≡ x)) → Sized (learn sameName ks x) → Sized (ite d ks (learn sameName ks x))
+    step : (d : Dec (k ≡ x)) → Sized (learn sameUid ks x) → Sized (ite d ks (learn sameUid ks x))
     step (yes p) ih = s .1
     step (no n) ih = ih
 
-pub sized-learns : (ks xs : List (List ℕ)) → Sized ks → Sized xs → Sized (learns sameName ks xs)
+pub sized-learns : (ks xs : List (List ℕ)) → Sized ks → Sized xs → Sized (learns sameUid ks xs)
 unfolding learns
 sized-learns ks [] s h = s
-sized-learns ks (x ∷ xs) s h = sized-learns (learn sameName ks x) xs (sized-learn ks x s (h .0)) (h .1)
+sized-learns ks (x ∷ xs) s h = sized-learns (learn sameUid ks x) xs (sized-learn ks x s (h .0)) (h .1)
 
 -- ---- numbers among slots
 
@@ -169,12 +169,12 @@ pub freeAll-member : (c : ℕ) (us : List (List ℕ)) → FreeAll c us → (u : 
 freeAll-member c (w ∷ us) f u (List·Memᴰ·head p) = rw p (f .0)
 freeAll-member c (w ∷ us) f u (List·Memᴰ·tail m) = freeAll-member c us (f .1) u m
 
-pub slots-undone : (us : List (List ℕ)) → ((u : List ℕ) → List·Memᴰ u us → Free 0 u) → Undone sameName sameName slotOf unslot us
+pub slots-undone : (us : List (List ℕ)) → ((u : List ℕ) → List·Memᴰ u us → Free 0 u) → Undone sameUid sameUid slotOf unslot us
 slots-undone us f u m = unslot-slotOf u (f u m)
 
 module _ (l us : List (List ℕ)) (f : (u : List ℕ) → List·Memᴰ u l → Free 0 u) (g : (u : List ℕ) → List·Memᴰ u us → Free 0 u) where
-  pub learns-slots : learns sameName (map slotOf l) (map slotOf us) ≡ map slotOf (learns sameName l us)
-  learns-slots = learns-rename sameName sameName slotOf unslot l us (slots-undone l f) (slots-undone us g)
+  pub learns-slots : learns sameUid (map slotOf l) (map slotOf us) ≡ map slotOf (learns sameUid l us)
+  learns-slots = learns-rename sameUid sameUid slotOf unslot l us (slots-undone l f) (slots-undone us g)
 
-  pub numbers-slots : numbers sameName (map slotOf l) (map slotOf us) ≡ numbers sameName l us
-  numbers-slots = numbers-rename sameName sameName slotOf unslot l us (slots-undone l f) (slots-undone us g)
+  pub numbers-slots : numbers sameUid (map slotOf l) (map slotOf us) ≡ numbers sameUid l us
+  numbers-slots = numbers-rename sameUid sameUid slotOf unslot l us (slots-undone l f) (slots-undone us g)

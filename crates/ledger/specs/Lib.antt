@@ -1,3 +1,3 @@
-pub mod Names
+pub mod FirstMet
 pub mod Slots
-pub mod Answer
+pub mod SlotFor

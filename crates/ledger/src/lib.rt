@@ -4,16 +4,16 @@ ghost use mathlib.Core.List.{List};
 ghost use lib.ListN.{length, take, drop};
 ghost use Rattle.basis.specs.Bytes.{part};
 ghost use Rattle.buffer.specs.Buffer.{cleared};
-ghost use Rattle.ledger.specs.Names.{place, sameName};
+ghost use Rattle.ledger.specs.FirstMet.{firstAt, sameUid};
 ghost use Rattle.ledger.specs.Slots.{slotSize, slotsOf, slotOf, slotsIn};
-ghost use Rattle.ledger.specs.Answer.{holds, slotFor, ledgerFor};
+ghost use Rattle.ledger.specs.SlotFor.{holds, slotFor, ledgerFor};
 
 // The bytes of a slot, and the most slots of a ledger.
 pub const SLOT_SIZE: usize = 64;
 
 pub const MOST_SLOTS: usize = 1024;
 
-// The number of a name's slot, counted from 1, and the new count of slots in use; or no slot is free for it.
+// The number of a UID's slot, counted from 1, and the new count of slots in use; or no slot is free for it.
 pub enum Slot {
     Full,
     At(usize, usize),
@@ -44,7 +44,7 @@ pub fn key_of(s: &[u8], from: usize, to: usize) -> [u8; SLOT_SIZE]
 // times as quick as one that stops at the first difference, on UIDs that begin alike.
 fn same_slot(ledger: &[u8], at: usize, key: &[u8]) -> bool
     requires { ⌜ (at + slotSize ≤ length (now ledger)) × (length (now key) ≡ slotSize) ⌝ }
-    ensures { λ r. ⌜ r ≡ holds (sameName (take slotSize (drop at (now (ledger .entry)))) (now (key .entry))) ⌝ }
+    ensures { λ r. ⌜ r ≡ holds (sameUid (take slotSize (drop at (now (ledger .entry)))) (now (key .entry))) ⌝ }
 {
     let mut same = true;
     let mut i = 0;
@@ -60,7 +60,7 @@ fn same_slot(ledger: &[u8], at: usize, key: &[u8]) -> bool
 // The place of the first slot in use that is this one, counted from 0; `used` where there is none.
 pub fn find(ledger: &[u8], used: usize, key: &[u8]) -> usize
     requires { ⌜ (slotSize * used ≤ length (now ledger)) × (length (now key) ≡ slotSize) ⌝ }
-    ensures { λ r. ⌜ r ≡ place sameName (slotsIn (now (ledger .entry)) used) (now (key .entry)) ⌝ }
+    ensures { λ r. ⌜ r ≡ firstAt sameUid (slotsIn (now (ledger .entry)) used) (now (key .entry)) ⌝ }
 {
     let mut i = 0;
     while i < used {

@@ -3,15 +3,15 @@
 --     one tag text      an entry of a tag that is one group
 --     cuts n s          s cut after n - 1 bytes, after n - 2, down to 1
 use mathlib.Core.Path.{_≡_, refl}
-use mathlib.Core.Bool.{Bool, true, false}
+use mathlib.Core.Bool.{true, false}
 use mathlib.Core.List.{List, [], _∷_, _++_, map}
 use mathlib.Core.Option.{Option, none, some}
 use Prim.Native.Nat.{ℕ, zero, suc}
 use lib.ListN.{length, take, replicate}
-use Rattle.basis.specs.Choice.{every, pick, fork, then}
-use Rattle.lists.specs.Number.{number, numberAt}
+use Rattle.basis.specs.Choice.{every}
+use Rattle.lists.specs.Number.{sevenBit, numberAt}
 use Rattle.lists.specs.Lists.{entryAt, entriesFrom, entries, listOk}
-use Rattle.lists.specs.Lookup.{findFrom, find, asked}
+use Rattle.lists.specs.Lookup.{seekFrom, entryOf, asked}
 
 abbrev subject : List ℕ
 subject = 0x90 ∷ 0x80 ∷ 0x40 ∷ 0x05 ∷ 0x53 ∷ 0x55 ∷ 0x42 ∷ 0x4A ∷ 0x37 ∷ []
@@ -70,5 +70,5 @@ pub cases :
     (map listOk good ≡ map (λ _. true) good) × (map listOk bad ≡ map (λ _. false) bad)
     × (entries subject ≡ some (record { tag = 0x00100010; from = 4; to = 9 } ∷ []))
     × (answers ≡ some (0x53 ∷ 0x55 ∷ 0x42 ∷ 0x4A ∷ 0x37 ∷ []) ∷ some (0x42 ∷ []) ∷ none ∷ some (0x41 ∷ []) ∷ [])
-unfolding every number numberAt entryAt entriesFrom entries listOk findFrom find asked
+unfolding every sevenBit numberAt entryAt entriesFrom entries listOk seekFrom entryOf asked
 cases = (refl, refl, refl, refl)

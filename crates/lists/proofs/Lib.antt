@@ -1,4 +1,4 @@
-pub mod AnswersLaws
+pub mod HandedLaws
 pub mod NumberLaws
 pub mod ListsLaws
 pub mod LookupLaws

@@ -1,13 +1,13 @@
 -- Laws of `specs/Lists.antt`. No contract cites this file. Assumes nothing.
---     then-some, pick-some, both            what led to something that was found: for `then`, `pick` and `&&`
+--     then-some, pick-some                  what led to something that was found: for `then` and `pick`
 --     entryAt-tagless, entryAt-short, entryAt-empty, entryAt-long, entryAt-cut, entryAt-is     one for each way of `entry_at`
---     Within s e, entryAt-within            an entry that was read: its tag is small enough, its value 1 to 64 bytes within the list
---     every-end, every-turn                 every byte of a part keeps a test: for the loop of `plain_value`
---     from-suc, isRead-then                 a number that is not 0; what goes on is read where it was read so far
+--     WithinList s e, entryAt-within            an entry that was read: its tag is small enough, its value 1 to 64 bytes within the list
+--     every-end, every-turn                 every byte of a part keeps a test: for the loop of `all_printable`
+--     from-suc, isSome-then                 a number that is not 0; what goes on is read where it was read so far
 --     Judging s at left low                 the entries from the place `at` on say whether the whole list keeps the rule
 --     judging-start, judging-end, judging-many, judging-broken, judging-falls, judging-odd, judging-next    one for each way of the loop of `list_ok`
 use mathlib.Core.Path.{_≡_, refl, sym, ap, _∙_}
-use mathlib.Core.Bool.{Bool, true, false, _&&_, not, and-false, and-true, and-assoc, false≢true}
+use mathlib.Core.Bool.{Bool, true, false, _&&_, and-false, and-true, and-assoc}
 use mathlib.Core.List.{List, [], _∷_}
 use mathlib.Core.Option.{Option, none, some, Option·none-ne-some, Option·some-injective}
 use Prim.Native.Nat.{ℕ, zero, suc, _+_, _-_, _≤_, _<_}
@@ -15,13 +15,14 @@ use native.Mathlib.Nat.{suc-sub-suc, sub-zero}
 use native.Mathlib.Numerals.{add-one}
 use native.Mathlib.Omega.{arith}
 use borrow.Author.Tests.{le-leb, lt-leb, leb-true, eq-eqb, ne-eqb}
-use lib.Dec.{eqb, leb}
+use lib.Dec.{leb}
 use lib.ListN.{length, getD, drop}
 use lib.Seq.{drop-cons}
 use Rattle.basis.specs.Bytes.{part}
-use Rattle.basis.specs.Choice.{pick, fork, then, every}
-use Rattle.lists.specs.Number.{number, held, numberAt}
-use Rattle.lists.specs.Lists.{mostTag, mostEntries, mostValue, entryAt, valueOf, plain, entriesFrom, entries, isRead, listOk}
+use Rattle.basis.specs.Choice.{pick, fork, then, every, isSome}
+use Rattle.basis.proofs.ChoiceLaws.{both-true}
+use Rattle.lists.specs.Number.{sevenBit, held, numberAt}
+use Rattle.lists.specs.Lists.{mostTag, mostEntries, mostValue, entryAt, entryValue, printable, entriesFrom, entries, listOk}
 use Rattle.lists.specs.declared.Entry.{Entry}
 use Rattle.lists.proofs.NumberLaws.{numberAt-end, numberAt-one}
 
@@ -34,10 +35,6 @@ then-some (some a) f b e = (a, refl, e)
 pub pick-some : {A : Type 0} (t : Bool) (a b : A) → pick t (some a) none ≡ some b → (t ≡ true) × (a ≡ b)
 pick-some true a b e = (refl, Option·some-injective a b e)
 pick-some false a b e = absurd (Option·none-ne-some b e)
-
-pub both : (t u : Bool) → (t && u) ≡ true → (t ≡ true) × (u ≡ true)
-both true u e = (refl, e)
-both false u e = absurd (false≢true e)
 
 -- ---- entryAt
 
@@ -75,7 +72,7 @@ module _ (s : List ℕ) (at : ℕ) where
       entryAt-is l = whole ∙ rw (le-leb (place + 1 + getD s place 0) (length s) (omega arith)) refl
 
 -- what an entry that was read is
-pub record Within (s : List ℕ) (e : Entry) : Type 0 where
+pub record WithinList (s : List ℕ) (e : Entry) : Type 0 where
   pub tag : e .tag ≤ mostTag
   pub some-bytes : e .from < e .to
   pub few-bytes : e .to ≤ e .from + mostValue
@@ -84,15 +81,15 @@ pub record Within (s : List ℕ) (e : Entry) : Type 0 where
 held-is : (low high at : ℕ) (r p : ℕ × ℕ) → held low high at r ≡ some p → (low ≤ p .0) × (p .0 ≤ high)
 held-is low high at r p e =
     let q = pick-some (leb low (r .0) && leb (r .0) high) (r .0, at + r .1) p e in
-    let t = both (leb low (r .0)) (leb (r .0) high) (q .0) in
+    let t = both-true (leb low (r .0)) (leb (r .0) high) (q .0) in
     let v : r .0 ≡ p .0 = ap (λ (x : ℕ × ℕ). x .0) (q .1) in
     (rw (← v) (leb-true low (r .0) (t .0)), rw (← v) (leb-true (r .0) high (t .1)))
 
 numberAt-is : (low high : ℕ) (s : List ℕ) (at : ℕ) (p : ℕ × ℕ) → numberAt low high s at ≡ some p → (low ≤ p .0) × (p .0 ≤ high)
 unfolding numberAt
-numberAt-is low high s at p e = let r = then-some (number (drop at s)) (held low high at) p e in held-is low high at (r .0) p (r .2)
+numberAt-is low high s at p e = let r = then-some (sevenBit (drop at s)) (held low high at) p e in held-is low high at (r .0) p (r .2)
 
-pub entryAt-within : (s : List ℕ) (at : ℕ) (e : Entry) → entryAt s at ≡ some e → Within s e
+pub entryAt-within : (s : List ℕ) (at : ℕ) (e : Entry) → entryAt s at ≡ some e → WithinList s e
 unfolding entryAt
 entryAt-within s at e is =
     let t = then-some (numberAt 0 mostTag s at) _ e is in
@@ -103,7 +100,7 @@ entryAt-within s at e is =
     let k = leb-true (n .0 .1 + n .0 .0) (length s) (p .0) in
     rw (← p .1) (record { tag = a .1; some-bytes = omega arith; few-bytes = omega arith; whole = k })
 
--- ---- every byte of a part keeps a test, as `plain_value` goes on
+-- ---- every byte of a part keeps a test, as `all_printable` goes on
 
 module _ (p : ℕ → Bool) (s : List ℕ) (i to : ℕ) (all : Bool) where
   pub every-end : to ≤ i → (all && every p (part s i to)) ≡ all
@@ -123,9 +120,9 @@ module _ (p : ℕ → Bool) (s : List ℕ) (i to : ℕ) (all : Bool) where
 pub from-suc : (n : ℕ) → (n ≡ 0 → ⊥) → n ≡ suc (n - 1)
 from-suc n h = omega arith
 
-pub isRead-then : {A B : Type 0} (x : Option A) (f : A → B) → isRead (then x (λ a. some (f a))) ≡ isRead x
-isRead-then none f = refl
-isRead-then (some a) f = refl
+pub isSome-then : {A B : Type 0} (x : Option A) (f : A → B) → isSome (then x (λ a. some (f a))) ≡ isSome x
+isSome-then none f = refl
+isSome-then (some a) f = refl
 
 -- nothing is left; something is, and no entry may be; an entry is there
 module _ (s : List ℕ) (at low : ℕ) where
@@ -140,7 +137,7 @@ module _ (s : List ℕ) (at low : ℕ) where
 
   entriesFrom-more : (left : ℕ) → at < length s → (left ≡ 0 → ⊥) → (x : Option Entry) → entryAt s at ≡ x
       → entriesFrom left s at low ≡ then x (λ e.
-      fork (leb low (e .tag) && every plain (valueOf s e)) (λ _. then (entriesFrom (left - 1) s (e .to) (e .tag + 1)) (λ es. some (e ∷ es))) (λ _. none))
+      fork (leb low (e .tag) && every printable (entryValue s e)) (λ _. then (entriesFrom (left - 1) s (e .to) (e .tag + 1)) (λ es. some (e ∷ es))) (λ _. none))
   unfolding entriesFrom
   entriesFrom-more left h n x is =
       rw (from-suc left n, lt-leb (length s) at h, is, suc-sub-suc (left - 1) 0, sub-zero (left - 1)) refl
@@ -148,7 +145,7 @@ module _ (s : List ℕ) (at low : ℕ) where
 -- ---- listOk, as `list_ok` finds it
 
 pub record Judging (s : List ℕ) (at left low : ℕ) : Type 0 where
-  pub rest : listOk s ≡ isRead (entriesFrom left s at low)
+  pub rest : listOk s ≡ isSome (entriesFrom left s at low)
 
 pub judging-start : (s : List ℕ) → Judging s 0 mostEntries 0
 unfolding listOk entries
@@ -156,27 +153,27 @@ judging-start s = record { rest = refl }
 
 module _ {s : List ℕ} {at left low : ℕ} (j : Judging s at left low) where
   pub judging-end : length s ≤ at → listOk s ≡ true
-  judging-end h = j .rest ∙ ap isRead (entriesFrom-end s at low left h)
+  judging-end h = j .rest ∙ ap isSome (entriesFrom-end s at low left h)
 
   module _ (h : at < length s) where
     pub judging-many : left ≡ 0 → listOk s ≡ false
-    judging-many e = j .rest ∙ ap isRead (ap (λ n. entriesFrom n s at low) e ∙ entriesFrom-many s at low h)
+    judging-many e = j .rest ∙ ap isSome (ap (λ n. entriesFrom n s at low) e ∙ entriesFrom-many s at low h)
 
     module _ (n : left ≡ 0 → ⊥) where
       pub judging-broken : entryAt s at ≡ none → listOk s ≡ false
-      judging-broken is = j .rest ∙ ap isRead (entriesFrom-more s at low left h n none is)
+      judging-broken is = j .rest ∙ ap isSome (entriesFrom-more s at low left h n none is)
 
       module _ {e : Entry} (is : entryAt s at ≡ some e) where
-        by-entry : listOk s ≡ isRead (fork (leb low (e .tag) && every plain (valueOf s e)) (λ _. then (entriesFrom (left - 1) s (e .to) (e .tag + 1)) (λ es. some (e ∷ es))) (λ _. none))
-        by-entry = j .rest ∙ ap isRead (entriesFrom-more s at low left h n (some e) is)
+        by-entry : listOk s ≡ isSome (fork (leb low (e .tag) && every printable (entryValue s e)) (λ _. then (entriesFrom (left - 1) s (e .to) (e .tag + 1)) (λ es. some (e ∷ es))) (λ _. none))
+        by-entry = j .rest ∙ ap isSome (entriesFrom-more s at low left h n (some e) is)
 
         pub judging-falls : e .tag < low → listOk s ≡ false
         judging-falls k = by-entry ∙ rw (lt-leb low (e .tag) k) refl
 
-        pub judging-odd : every plain (valueOf s e) ≡ false → listOk s ≡ false
+        pub judging-odd : every printable (entryValue s e) ≡ false → listOk s ≡ false
         judging-odd k = by-entry ∙ rw (k, and-false (leb low (e .tag))) refl
 
-        pub judging-next : low ≤ e .tag → every plain (valueOf s e) ≡ true → Judging s (e .to) (left - 1) (e .tag + 1)
+        pub judging-next : low ≤ e .tag → every printable (entryValue s e) ≡ true → Judging s (e .to) (left - 1) (e .tag + 1)
         judging-next k l = record {
-          rest = by-entry ∙ rw (le-leb low (e .tag) k, l) (isRead-then (entriesFrom (left - 1) s (e .to) (e .tag + 1)) (λ es. e ∷ es));
+          rest = by-entry ∙ rw (le-leb low (e .tag) k, l) (isSome-then (entriesFrom (left - 1) s (e .to) (e .tag + 1)) (λ es. e ∷ es));
         }

@@ -1,4 +1,4 @@
 pub mod Number
 pub mod Lists
 pub mod Lookup
-pub mod Answers
+pub mod Handed

@@ -5,9 +5,9 @@ ghost use lib.ListN.{length};
 ghost use Rattle.basis.specs.Bytes.{part};
 ghost use Rattle.basis.specs.Choice.{every};
 ghost use Rattle.lists.specs.Number.{numberAt};
-ghost use Rattle.lists.specs.Lists.{mostTag, entryAt, plain, listOk};
-ghost use Rattle.lists.specs.Lookup.{find, asked, bytesOr, Shown};
-ghost use Rattle.lists.specs.Answers.{numOf, foundOf};
+ghost use Rattle.lists.specs.Lists.{mostTag, entryAt, printable, listOk};
+ghost use Rattle.lists.specs.Lookup.{entryOf, asked, bytesOr, Shown};
+ghost use Rattle.lists.specs.Handed.{numOf, foundOf};
 
 // The largest tag, the most entries of a list, the most bytes of a value.
 const MOST_TAG: u64 = 0xFFFFFFFF;
@@ -104,21 +104,21 @@ fn entry_at(s: &[u8], at: usize) -> Found
 }
 
 // A character that a value may hold.
-fn plain_byte(b: u8) -> bool
-    ensures { λ r. ⌜ r ≡ plain b ⌝ }
+fn is_printable(b: u8) -> bool
+    ensures { λ r. ⌜ r ≡ printable b ⌝ }
 {
     (0x20 <= b) & (b <= 0x7E) & (b != 0x5C)
 }
 
 // Whether a value holds only such characters. Every byte is looked at, with no early way out: so it compiles to vector code.
-fn plain_value(s: &[u8], from: usize, to: usize) -> bool
+fn all_printable(s: &[u8], from: usize, to: usize) -> bool
     requires { ⌜ to ≤ length (now s) ⌝ }
-    ensures { λ r. ⌜ r ≡ every plain (part (now (s .entry)) from to) ⌝ }
+    ensures { λ r. ⌜ r ≡ every printable (part (now (s .entry)) from to) ⌝ }
 {
     let mut all = true;
     let mut i = from;
     while i < to {
-        all = all & plain_byte(s[i]);
+        all = all & is_printable(s[i]);
         i += 1;
     }
     all
@@ -145,7 +145,7 @@ pub fn list_ok(s: &[u8]) -> bool
                 if tag < low {
                     return false;
                 }
-                if !plain_value(s, from, to) {
+                if !all_printable(s, from, to) {
                     return false;
                 }
                 at = to;
@@ -158,8 +158,8 @@ pub fn list_ok(s: &[u8]) -> bool
 }
 
 // The entry for a tag. Tags rise, so the search ends at the first that is not below the one asked for.
-fn find(s: &[u8], tag: u64) -> Found
-    ensures { λ r. ⌜ r ≡ foundOf (find (now (s .entry)) tag) ⌝ }
+fn entry_of(s: &[u8], tag: u64) -> Found
+    ensures { λ r. ⌜ r ≡ foundOf (entryOf (now (s .entry)) tag) ⌝ }
 {
     let mut at: usize = 0;
     let mut left = MOST_ENTRIES;
@@ -186,10 +186,10 @@ fn find(s: &[u8], tag: u64) -> Found
 
 // The value for a tag, as the very part of the study's list, else of the site's; else an empty part.
 pub fn lookup<'a>(study: &'a [u8], site: &'a [u8], tag: u64) -> &'a [u8]
-    ensures shown { λ r. ⌜ Shown (find (now (study .entry)) tag) (find (now (site .entry)) tag) r (study .entry) (site .entry) ⌝ }
+    ensures shown { λ r. ⌜ Shown (entryOf (now (study .entry)) tag) (entryOf (now (site .entry)) tag) r (study .entry) (site .entry) ⌝ }
     ensures bytes { λ r. ⌜ now r ≡ bytesOr (asked (now (study .entry)) (now (site .entry)) tag) ⌝ }
 {
-    let here = find(study, tag);
+    let here = entry_of(study, tag);
     match here {
         Found::At(e) => {
             let from = e.from;
@@ -197,7 +197,7 @@ pub fn lookup<'a>(study: &'a [u8], site: &'a [u8], tag: u64) -> &'a [u8]
             &study[from..to]
         }
         Found::Nothing => {
-            let there = find(site, tag);
+            let there = entry_of(site, tag);
             match there {
                 Found::At(e) => {
                     let from = e.from;

@@ -1,7 +1,7 @@
 -- The rows of CID 7050 that are used and the edges of refusal 1, as one table: by computation. Assumes nothing.
 --     rows                 document 001, Table CID 7050: code values, meanings and how many bytes those have, by rising code
 --     fine, refused        option numbers and shifts on either side of each limit
---     words                (0028,0303) for no date option, Full Dates, Modified Dates
+-- The claim has the words of (0028,0303) too: for no date option, Full Dates, Modified Dates
 use mathlib.Core.Path.{_≡_, refl}
 use mathlib.Core.Bool.{Bool, true, false}
 use mathlib.Core.List.{List, [], _∷_, map}

@@ -1,4 +1,3 @@
-pub mod TextLaws
 pub mod SignLaws
 pub mod OptionsLaws
 pub mod SettingsLaws

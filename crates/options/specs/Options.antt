@@ -13,9 +13,9 @@ use mathlib.Core.Bool.{Bool}
 use mathlib.Core.List.{List, [], _∷_}
 use mathlib.Core.Option.{Option, none, some}
 use Prim.Native.Nat.{ℕ, _/_, _%_, _^_}
-use lib.Dec.{eqb}
 use lib.ListN.{getElem?}
 use Rattle.basis.specs.Choice.{pick, fork, then}
+use Rattle.basis.specs.Bytes.{hasBit}
 use Rattle.basis.specs.Text.{ascii}
 use Rattle.options.specs.declared.Opt.{Opt}
 use Rattle.options.specs.declared.Opt.the-variants.{FullDates, ModifiedDates, PatientCharacteristics, DeviceIdentity, RetainUids, InstitutionIdentity}
@@ -60,7 +60,7 @@ abbrev pub basicMeaning : List ℕ
 basicMeaning = ascii "Basic Application Confidentiality Profile"
 
 abbrev pub isChosen : ℕ → Opt → Bool
-isChosen number o = eqb (number / 2 ^ bitOf o % 2) 1
+isChosen number o = hasBit number (bitOf o)
 
 unfoldable pub chosenIn : ℕ → List Opt → List Opt
 chosenIn number [] = []

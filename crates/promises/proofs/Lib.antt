@@ -10,7 +10,9 @@ pub mod Demand2One
 pub mod Demand2Accepted
 pub mod Demand3Proof
 pub mod Witness
+pub mod Exhibits
 pub mod WrongStations
+pub mod WrongStations3
 pub mod OneOutcome
 pub mod OneOutcomeLayout
 pub mod OneOutcomeLeaves
@@ -18,6 +20,9 @@ pub mod OneOutcomeRules
 pub mod OneOutcomeValues
 pub mod RunningProof
 pub mod RunningBatches
+pub mod RunningWitness
 pub mod RunningCProof
+pub mod RunningCWitness
 pub mod OneOutcomeWalks
+pub mod OneOutcomeSteps
 pub mod OneOutcomeEntries

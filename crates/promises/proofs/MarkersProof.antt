@@ -1,10 +1,10 @@
 -- What is left of a data set holds nothing that is removed on its level, and the export is that with the markers: `specs/Demand2.antt`,
 -- `specs/Markers.antt`. No contract cites this file. Assumes nothing.
 --     treated-none-removed     nothing that is removed is left, at any depth
---     marked-gains             the top level gains the three markers
+--     withMarkers-gains             the top level gains the three markers
 use mathlib.Core.Path.{_≡_, refl, sym, subst}
 use mathlib.Core.Logic.{_≢_}
-use mathlib.Core.Bool.{Bool, true, false}
+use mathlib.Core.Bool.{true}
 use mathlib.Core.List.{List, [], _∷_}
 use Prim.Native.Nat.{ℕ}
 use native.Mathlib.Omega.{arith}
@@ -14,19 +14,23 @@ use Rattle.basis.specs.Choice.{fork, among}
 use Rattle.basis.specs.Text.{ascii}
 use Rattle.vr.specs.Names.{CS, SQ}
 use Rattle.layout.specs.Tree.{Field, value, items, nil, elem, Items, none as noItem, item, Data}
-use Rattle.table.specs.Rules.{marks}
+use Rattle.table.specs.Rules.{reserved, patientIdentityRemovedTag, deidentificationCodesTag, longitudinalTimeTag}
 use Rattle.table.specs.Action.{actionOf}
 use Rattle.table.specs.declared.Action.{Action}
 use Rattle.table.specs.declared.Action.the-variants.{Remove, Keep, Empty, Dummy, Rename, Clean, CleanDates}
-use Rattle.table.proofs.ActionLaws.{marks-removed}
+use Rattle.table.proofs.ActionLaws.{reserved-removed}
 use Rattle.options.specs.Options.{options, codeOf, meaningOf, basicCode, basicMeaning, isChosen, chosenIn}
 use Rattle.options.specs.Settings.{dateWord}
 use Rattle.options.specs.declared.Opt.{Opt}
-use Rattle.kept.specs.Settings.{Settings}
+use Rattle.treatment.specs.Settings.{Settings}
+use Rattle.treatment.specs.Fates.{isTop, below}
+use Rattle.treatment.specs.declared.Level.{Level}
+use Rattle.treatment.specs.declared.Level.the-variants.{Top}
+use Rattle.treatment.specs.declared.Fate.the-variants.{Walked}
 use Rattle.kept.specs.Counts.{Counts}
 use Rattle.kept.specs.Fillers.{spaced}
-use Rattle.kept.specs.Marks.{text, codeItem as codeItemOf, optionItems, codes, insert, marked}
-use Rattle.kept.proofs.MarksLaws.{fork-case, Absent}
+use Rattle.kept.specs.Markers.{text, codeItem as codeItemOf, optionItems, codes, insert, withMarkers}
+use Rattle.kept.proofs.MarkersLaws.{fork-case, Absent}
 use Rattle.promises.specs.Treated.{Keeps, keep, time, WalkedInto, rename, clean, cleanDates, AsD, dummy, Renames, asD, Becomes, same, emptied-listed, emptied, emptied-sequence, dummied-listed, dummied, dummied-sequence, renamed, date, dateTime, Treated, TreatedItems}
 use Rattle.promises.specs.Markers.{Gains, last as atLast, before, after, CodeItem, codeItem, OptionItems, none, chosen, other, GainsMarkers}
 use Rattle.promises.specs.Demand2.{NoneRemovedField, NoneRemoved, NoneRemovedItems}
@@ -69,8 +73,8 @@ renames-not : {a : Action} {vr : ℕ} → Renames a vr → NotRemove a
 renames-not rename = tt
 renames-not (asD d) = asD-not d
 
-becomes-not : {s : Settings} {number : List ℕ → ℕ} {top : Bool} {tag vr : ℕ} {f g : Field (Unit {0})} {c : Counts} {us : List (List ℕ)}
-    → Becomes s number top tag vr f g c us → NotRemove (actionOf (s .options) top tag) × NoneRemovedField g (s .options)
+becomes-not : {s : Settings} {numberFor : List ℕ → ℕ} {level : Level} {tag vr : ℕ} {f g : Field (Unit {0})} {c : Counts} {us : List (List ℕ)}
+    → Becomes s numberFor level tag vr f g c us → NotRemove (actionOf (s .options) (isTop level) tag) × NoneRemovedField g (s .options) level
 unfolding NoneRemovedField NoneRemoved NoneRemovedItems
 becomes-not (same k) = (keeps-not k, tt)
 becomes-not (emptied-listed a l e) = (is-not a tt, tt)
@@ -83,38 +87,39 @@ becomes-not (renamed a q u) = (renames-not a, tt)
 becomes-not (date a q e) = (is-not a tt, tt)
 becomes-not (dateTime a q e) = (is-not a tt, tt)
 
-module _ (s : Settings) (number : List ℕ → ℕ) where
+module _ (s : Settings) (numberFor : List ℕ → ℕ) where
   mutual
     unfolding NoneRemovedField NoneRemoved NoneRemovedItems
 
-    field-none-removed : (f : Field (Unit {0})) (is os : Items (Unit {0})) (c : Counts) (us : List (List ℕ)) → f ≡ items is → TreatedItems s number is os c us
-        → NoneRemovedItems os (s .options)
-    field-none-removed (value v) is os c us e i = absurd (let z : _≡_ {A = ℕ} 0 1 = cc in omega arith)
-    field-none-removed (items js) is os c us e i =
+    field-none-removed : (f : Field (Unit {0})) (level : Level) (is os : Items (Unit {0})) (c : Counts) (us : List (List ℕ)) → f ≡ items is → TreatedItems s numberFor level is os c us
+        → NoneRemovedItems os (s .options) level
+    field-none-removed (value v) level is os c us e i = absurd (let z : _≡_ {A = ℕ} 0 1 = cc in omega arith)
+    field-none-removed (items js) level is os c us e i =
         let q : is ≡ js = cc in
-        items-none-removed js os c us (rw q at i)
+        items-none-removed js level os c us (rw q at i)
 
-    pub treated-none-removed : (es : Data) (top : Bool) (ds : Data) (c : Counts) (us : List (List ℕ)) → Treated s number top es ds c us → NoneRemoved ds (s .options) top
-    treated-none-removed nil top ds c us t = treated-nil s number (λ d _ _. NoneRemoved d (s .options) top) tt t
-    treated-none-removed (elem l tag vr f es) top ds c us t =
-        treated-elem s number (λ d _ _. NoneRemoved d (s .options) top)
-        (λ d b ws a k. treated-none-removed es top d b ws k)
-        (λ is os d a b vs ws e w q i k. (not-remove (walked-not w), field-none-removed f is os a vs e i, treated-none-removed es top d b ws k))
-        (λ g d a b vs ws h k. (not-remove (becomes-not h .0), becomes-not h .1, treated-none-removed es top d b ws k)) t
+    pub treated-none-removed : (es : Data) (level : Level) (ds : Data) (c : Counts) (us : List (List ℕ)) → Treated s numberFor level es ds c us → NoneRemoved ds (s .options) level
+    treated-none-removed nil level ds c us t = treated-nil s numberFor (λ d _ _. NoneRemoved d (s .options) level) tt t
+    treated-none-removed (elem l tag vr f es) level ds c us t =
+        treated-elem s numberFor (λ d _ _. NoneRemoved d (s .options) level)
+        (λ d b ws a k. treated-none-removed es level d b ws k)
+        (λ is os d a b vs ws e w q i k. (not-remove (walked-not w), field-none-removed f (below Walked level) is os a vs e i, treated-none-removed es level d b ws k))
+        (λ g d a b vs ws h k. (not-remove (becomes-not h .0), becomes-not h .1, treated-none-removed es level d b ws k)) t
 
-    items-none-removed : (is os : Items (Unit {0})) (c : Counts) (us : List (List ℕ)) → TreatedItems s number is os c us → NoneRemovedItems os (s .options)
-    items-none-removed noItem os c us t = items-none s number (λ o _ _. NoneRemovedItems o (s .options)) tt t
-    items-none-removed (item es is) os c us t =
-        items-item s number (λ o _ _. NoneRemovedItems o (s .options))
-        (λ d js a b vs ws k i. (treated-none-removed es false d a vs k, items-none-removed is js b ws i)) t
+    items-none-removed : (is : Items (Unit {0})) (level : Level) (os : Items (Unit {0})) (c : Counts) (us : List (List ℕ)) → TreatedItems s numberFor level is os c us
+        → NoneRemovedItems os (s .options) level
+    items-none-removed noItem level os c us t = items-none s numberFor (λ o _ _. NoneRemovedItems o (s .options) level) tt t
+    items-none-removed (item es is) level os c us t =
+        items-item s numberFor (λ o _ _. NoneRemovedItems o (s .options) level)
+        (λ d js a b vs ws k i. (treated-none-removed es level d a vs k, items-none-removed is level js b ws i)) t
 
 -- ---- the markers
 
 -- so the tags of the markers do not stand on the top level
-marks-absent : (options mark : ℕ) → among mark marks ≡ true → (ds : Data) → NoneRemoved ds options true → Absent mark ds
+reserved-absent : (options mark : ℕ) → among mark reserved ≡ true → (ds : Data) → NoneRemoved ds options Top → Absent mark ds
 unfolding NoneRemoved Absent
-marks-absent options mark is nil n = tt
-marks-absent options mark is (elem l t v f ds) n = (λ e. n .0 (marks-removed options t (rw e at is)), marks-absent options mark is ds (n .2))
+reserved-absent options mark is nil n = tt
+reserved-absent options mark is (elem l t v f ds) n = (λ e. n .0 (reserved-removed options t (rw e at is)), reserved-absent options mark is ds (n .2))
 
 module _ (tag vr : ℕ) (f : Field (Unit {0})) where
   insert-gains : (ds : Data) → Absent tag ds → Gains tag vr f ds (insert tag vr f ds)
@@ -142,15 +147,15 @@ option-items number (o ∷ os) =
     fork-case (λ (l : List Opt). OptionItems number (o ∷ os) (optionItems l)) (isChosen number o) (λ _. o ∷ chosenIn number os) (λ _. chosenIn number os)
     (λ e. chosen e (code-item (codeOf o) (meaningOf o)) (option-items number os)) (λ e. other e (option-items number os))
 
-pub marked-gains : (number : ℕ) (ds : Data) → NoneRemoved ds number true → GainsMarkers number ds (marked number ds)
-unfolding marked codes spaced among
-marked-gains number ds n =
-    let dated : Data = insert 0x0028_0303 CS (text (dateWord number)) ds in
-    let coded : Data = insert 0x0012_0064 SQ (items (codes number)) dated in
-    let w : Gains 0x0028_0303 CS (text (dateWord number)) ds dated = insert-gains 0x0028_0303 CS (text (dateWord number)) ds (marks-absent number 0x0028_0303 refl ds n) in
-    let a : Absent 0x0012_0064 dated = gains-absent 0x0028_0303 CS (text (dateWord number)) 0x0012_0064 (omega arith) w (marks-absent number 0x0012_0064 refl ds n) in
-    let k : Gains 0x0012_0064 SQ (items (codes number)) dated coded = insert-gains 0x0012_0064 SQ (items (codes number)) dated a in
-    let b : Absent 0x0012_0062 dated = gains-absent 0x0028_0303 CS (text (dateWord number)) 0x0012_0062 (omega arith) w (marks-absent number 0x0012_0062 refl ds n) in
+pub withMarkers-gains : (number : ℕ) (ds : Data) → NoneRemoved ds number Top → GainsMarkers number ds (withMarkers number ds)
+unfolding withMarkers codes spaced among
+withMarkers-gains number ds n =
+    let dated : Data = insert longitudinalTimeTag CS (text (dateWord number)) ds in
+    let coded : Data = insert deidentificationCodesTag SQ (items (codes number)) dated in
+    let w : Gains longitudinalTimeTag CS (text (dateWord number)) ds dated = insert-gains longitudinalTimeTag CS (text (dateWord number)) ds (reserved-absent number longitudinalTimeTag refl ds n) in
+    let a : Absent deidentificationCodesTag dated = gains-absent longitudinalTimeTag CS (text (dateWord number)) deidentificationCodesTag (omega arith) w (reserved-absent number deidentificationCodesTag refl ds n) in
+    let k : Gains deidentificationCodesTag SQ (items (codes number)) dated coded = insert-gains deidentificationCodesTag SQ (items (codes number)) dated a in
+    let b : Absent patientIdentityRemovedTag dated = gains-absent longitudinalTimeTag CS (text (dateWord number)) patientIdentityRemovedTag (omega arith) w (reserved-absent number patientIdentityRemovedTag refl ds n) in
     record {
       word = spaced (dateWord number);
       word-is = evened (dateWord number);
@@ -162,5 +167,5 @@ marked-gains number ds n =
       chosen-are = option-items number options;
       coded = coded;
       gains-codes = k;
-      gains-yes = insert-gains 0x0012_0062 CS (text (ascii "YES")) coded (gains-absent 0x0012_0064 SQ (items (codes number)) 0x0012_0062 (omega arith) k b);
+      gains-yes = insert-gains patientIdentityRemovedTag CS (text (ascii "YES")) coded (gains-absent deidentificationCodesTag SQ (items (codes number)) patientIdentityRemovedTag (omega arith) k b);
     }

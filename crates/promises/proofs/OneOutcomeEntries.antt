@@ -9,8 +9,8 @@ use Prim.Native.Nat.{ℕ}
 use contract.Lifetimes.{Lfts}
 use denote.Ref.{now}
 use Rattle.station.specs.Entry.{report}
-use Rattle.station.specs.declared.Outcome.{Outcome as Answer}
-use Rattle.station.specs.declared.Outcome.the-variants.{Refused, Done}
+use Rattle.station.specs.declared.HandedBack.{HandedBack}
+use Rattle.station.specs.declared.HandedBack.the-variants.{Refused, Done}
 use Rattle.abi.proofs.corravisk_view.Reads as corravisk-view
 use Rattle.abi.proofs.corravisk_action.Reads as corravisk-action
 use Rattle.promises.specs.Running.{Lent, input, Runs, outcome}
@@ -21,13 +21,13 @@ use Rattle.promises.proofs.OneOutcomeWalks.{progress-one}
 
 -- ---- station
 
-report-one : (used : ℕ) (r r′ : Answer) → outcome r ≡ outcome r′ → report used r ≡ report used r′ → r ≡ r′
+report-one : (used : ℕ) (r r′ : HandedBack) → outcome r ≡ outcome r′ → report used r ≡ report used r′ → r ≡ r′
 report-one used (Refused n o) (Refused n′ o′) e f = cc
 report-one used (Refused n o) (Done t) e f = cc
 report-one used (Done t) (Refused n o) e f = cc
-report-one used (Done t) (Done t′) e f = ap Done (progress-one t t′ (ap (λ z. z .length) f) (ap (λ z. z .used) f) (ap (λ z. z .counts) f))
+report-one used (Done t) (Done t′) e f = ap Done (progress-one t t′ (ap (λ z. z .written) f) (ap (λ z. z .used) f) (ap (λ z. z .counts) f))
 
-pub deidentify-one : (x y : Lent) (r r′ : Answer) (l l′ o o′ : Slice) → input x ≡ input y → Runs x r l o → Runs y r′ l′ o′
+pub deidentify-one : (x y : Lent) (r r′ : HandedBack) (l l′ o o′ : Slice) → input x ≡ input y → Runs x r l o → Runs y r′ l′ o′
     → (r ≡ r′) × (now o ≡ now o′) × (now l ≡ now l′)
 deidentify-one x y r r′ l l′ o o′ i a b = (report-one (x .used) r r′ same (one .0 ∙ ap (λ z. report (z .used) r′) (sym i)), one .1, one .2)
   where

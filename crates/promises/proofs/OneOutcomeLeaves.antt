@@ -1,4 +1,4 @@
--- One outcome for the public routines of `buffer`, `vr` and `heads`, in the words of `OneOutcome`. No contract cites this file.
+-- One outcome for the public routines of `buffer`, `vr` and `write_headers`, in the words of `OneOutcome`. No contract cites this file.
 -- Assumes nothing.
 use mathlib.Core.Path.{_≡_, refl}
 use mathlib.Core.Bool.{Bool}
@@ -14,8 +14,8 @@ use Rattle.vr.proofs.vrs.Reads as vrs
 use Rattle.vr.proofs.kind_of.Reads as kind-of
 use Rattle.vr.proofs.served_by_lists.Reads as served-by-lists
 use Rattle.vr.proofs.dummy_of.Reads as dummy-of
-use Rattle.heads.proofs.put_header.Reads as put-header
-use Rattle.heads.proofs.put_mark.Reads as put-mark
+use Rattle.write_headers.proofs.put_header.Reads as put-header
+use Rattle.write_headers.proofs.put_mark.Reads as put-mark
 use Rattle.promises.proofs.OneOutcome.{OneAnswer, OneWrite, OneCopy}
 
 -- ---- buffer

@@ -14,7 +14,7 @@ use Rattle.calendar.specs.Dates.{dateIn}
 use Rattle.calendar.specs.declared.Date.{Date}
 use Rattle.calendar.specs.declared.Moved.{Moved}
 use Rattle.calendar.specs.declared.Moved.the-variants.{To, Refused}
-use Rattle.lists.specs.Lookup.{find as entryIn, Shown}
+use Rattle.lists.specs.Lookup.{entryOf, Shown}
 use Rattle.lists.specs.declared.Entry.{Entry}
 use Rattle.options.specs.declared.Opt.{Opt}
 use Rattle.options.specs.declared.Chosen.{Chosen}
@@ -25,7 +25,7 @@ use Rattle.uid.proofs.is_uid.Reads as is-uid
 use Rattle.uid.proofs.is_root.Reads as is-root
 use Rattle.uid.proofs.trimmed_end.Reads as trimmed-end
 use Rattle.uid.proofs.uids_fault.Reads as uids-fault
-use Rattle.uid.proofs.piece_end.Reads as piece-end
+use Rattle.basis.proofs.piece_end.Reads as piece-end
 use Rattle.uid.proofs.put_decimal.Reads as put-decimal
 use Rattle.uid.proofs.put_uid.Reads as put-uid
 use Rattle.ledger.proofs.slots.Reads as slots
@@ -141,7 +141,7 @@ pub lookup-one : (κs κs′ : Lfts 1) (tag : ℕ) (s s′ t t′ r r′ : Slice
     → lookup.Learnt κs (s, (t, (tag, tt))) r (s, (t, (tag, tt))) → lookup.Learnt κs′ (s′, (t′, (tag, tt))) r′ (s′, (t′, (tag, tt)))
     → SamePart ((ptr s ≡ ptr s′) × (ptr t ≡ ptr t′)) r r′
 lookup-one κs κs′ tag s s′ t t′ r r′ d e a b =
-    shown-one (entryIn (now s) tag) (entryIn (now t) tag) r r′ s s′ t t′ d e (a .0) (rw (d, e) (b .0))
+    shown-one (entryOf (now s) tag) (entryOf (now t) tag) r r′ s s′ t t′ d e (a .0) (rw (d, e) (b .0))
 
 -- ---- options
 

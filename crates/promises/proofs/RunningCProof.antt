@@ -1,5 +1,5 @@
 -- The three demands for the C interface. No contract cites this file. Assumes nothing.
---     told                 the numbers, every byte of the output and every byte of the ledger are `answer`'s
+--     told                 the numbers, every byte of the output and every byte of the ledger are `outcome`'s
 --     outcome-in           so is the outcome that the numbers say
 --     c-demand1, c-demand2, c-demand2-other, c-demand3    THE DEMANDS
 use mathlib.Core.Path.{_≡_, refl, sym, ap, _∙_}
@@ -9,9 +9,10 @@ use native.Mathlib.Omega.{arith}
 use lib.ListN.{length}
 use contract.Lifetimes.{Lfts}
 use denote.Ref.{RefT, now}
-use Rattle.kept.specs.Settings.{Settings}
-use Rattle.answer.specs.Input.{Input}
-use Rattle.answer.specs.Answer.{Outcome, refused, done, Report, answer, reportFor, reportOf, outputOf, ledgerOf}
+use Rattle.layout.specs.Source.{Source}
+use Rattle.treatment.specs.Settings.{Settings}
+use Rattle.outcome.specs.Input.{Input}
+use Rattle.outcome.specs.Outcome.{Outcome, refused, done, Report, outcomeOf, reportFor, reportOf, outputOf, ledgerOf}
 use Rattle.abi.specs.Numbers.{reportNumbers}
 use Rattle.promises.specs.Demand3.{started, Ran, none, next}
 use Rattle.promises.specs.Running.{Lent, input}
@@ -37,22 +38,22 @@ module _ (κs : Lfts 6) (x : Lent) (n l o m : RefT (List ℕ)) (c : Calls κs x 
   report-in : reportIn (now m) ≡ reportOf (input x)
   report-in = numbers-in (now m) (reportOf (input x)) (told .0) .1
 
-outcome-by : (i : Input) → outcomeBy (reportOf i .refusal) (reportOf i .offset) ≡ answer i
+outcome-by : (i : Input) → outcomeBy (reportOf i .refusal) (reportOf i .offset) ≡ outcomeOf i
 unfolding reportOf
-outcome-by i = step (answer i) refl
+outcome-by i = step (outcomeOf i) refl
   where
     number : (k p : ℕ) → 1 ≤ k → outcomeBy k p ≡ refused k p
     number zero p h = absurd (omega arith)
     number (suc k) p h = refl
 
-    step : (a : Outcome) → answer i ≡ a → outcomeBy (reportFor i a .refusal) (reportFor i a .offset) ≡ a
+    step : (a : Outcome) → outcomeOf i ≡ a → outcomeBy (reportFor i a .refusal) (reportFor i a .offset) ≡ a
     step (refused k p) e = number k p (refused-number i k p e)
     step done e = refl
 
-outcome-in : (ns : List ℕ) (i : Input) → reportIn ns ≡ reportOf i → outcomeIn ns ≡ answer i
+outcome-in : (ns : List ℕ) (i : Input) → reportIn ns ≡ reportOf i → outcomeIn ns ≡ outcomeOf i
 outcome-in ns i e = ap (λ (r : Report). outcomeBy (r .refusal) (r .offset)) e ∙ outcome-by i
 
-is-done : (ns : List ℕ) (i : Input) → reportIn ns ≡ reportOf i → reportIn ns .refusal ≡ 0 → answer i ≡ done
+is-done : (ns : List ℕ) (i : Input) → reportIn ns ≡ reportOf i → reportIn ns .refusal ≡ 0 → outcomeOf i ≡ done
 is-done ns i e z = sym (outcome-in ns i e) ∙ ap (λ k. outcomeBy k (reportIn ns .offset)) z
 
 -- ---- the demands
@@ -69,7 +70,7 @@ c-demand2 κs x n l o m c bytes z =
     let e : reportIn (now m) ≡ reportOf (input x) = report-in κs x n l o m c in
     rw (e, t .1, t .2) (demand2 (input x) bytes (is-done (now m) (input x) e z))
 
-refusal-none : (i : Input) → answer i ≡ done → reportOf i .refusal ≡ 0
+refusal-none : (i : Input) → outcomeOf i ≡ done → reportOf i .refusal ≡ 0
 unfolding reportOf
 refusal-none i ok = rw ok
 
@@ -77,7 +78,7 @@ pub c-demand2-other : CDemand2Other
 c-demand2-other κs x n l o m c clear q out k e =
     ap (λ (r : Report). r .refusal) (report-in κs x n l o m c) ∙ refusal-none (input x) (exports-accepted (input x) q out k clear e)
 
-ran : {s : Settings} {l : List ℕ} {n : ℕ} {xs outs : List (List ℕ)} → RanByC s l n xs outs → Ran s l n xs outs
+ran : {s : Settings} {l : List ℕ} {n : ℕ} {xs : List Source} {outs : List (List ℕ)} → RanByC s l n xs outs → Ran s l n xs outs
 ran none-by = none
 ran {s} {l} {n} (next-by {d = d} {ds = ds} {outs = outs} c rest) =
     let i : input (c .given) ≡ started s l n (length (now (c .given .out))) d = as-started (c .given) (c .lent-is) (c .settings-are) (c .ledger-is) (c .used-is) in

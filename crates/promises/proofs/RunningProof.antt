@@ -1,9 +1,9 @@
 -- The first and the second demand for the running code, and that any two outcomes that its contract allows are one.
 -- No contract cites this file. Assumes nothing.
---     said                 the answer's report, every byte of the output and every byte of the ledger are `answer`'s
+--     said                 the answer's report, every byte of the output and every byte of the ledger are `outcome`'s
 --     bytes-some           something is always written, so that no refusal is told like a finished data set
 --     refused-number       a refusal's number is not 0
---     outcome-is           the answer is `answer`'s
+--     outcome-is           what is handed back says the outcome of `outcomeOf`
 --     running-demand1, running-demand2    DEMANDS 1 AND 2
 --     running-demand2-other    the other half of demand 2
 --     station-one          ONE OUTCOME: two calls that were lent the same leave the same
@@ -25,19 +25,21 @@ use Rattle.layout.specs.Tree.{Field, value, items, nil, elem, none as noItem, i
 use Rattle.layout.specs.Heads.{undefined}
 use Rattle.layout.specs.Write.{header, putElements, putField, bytesOf}
 use Rattle.layout.proofs.MarkLaws.{header-unknown, header-short, header-long, header-sequence}
-use Rattle.kept.specs.Marks.{insert, marked}
+use Rattle.table.specs.Rules.{patientIdentityRemovedTag}
+use Rattle.kept.specs.Markers.{insert, withMarkers}
 use Rattle.kept.specs.Written.{export, written}
-use Rattle.answer.specs.Input.{Input, bytesFor}
-use Rattle.answer.specs.Answer.{Outcome, refused, done, Report, answer, reportFor, reportOf, outputOf, ledgerOf}
+use Rattle.refusals.specs.Refusals.{noRoom}
+use Rattle.outcome.specs.Input.{Input, bytesFor}
+use Rattle.outcome.specs.Outcome.{Outcome, refused, done, Report, outcomeOf, reportFor, reportOf, outputOf, ledgerOf}
 use Rattle.station.specs.Entry.{report}
-use Rattle.station.specs.declared.Outcome.{Outcome as Answer}
-use Rattle.station.specs.declared.Outcome.the-variants.{Refused, Done}
+use Rattle.station.specs.declared.HandedBack.{HandedBack}
+use Rattle.station.specs.declared.HandedBack.the-variants.{Refused, Done}
 use Rattle.promises.specs.Running.{Lent, input, Runs, outcome, RunningDemand1, RunningDemand2, RunningDemand2Other}
 use Rattle.promises.proofs.Demand1Proof.{demand1}
 use Rattle.promises.proofs.Demand2Proof.{demand2}
 use Rattle.promises.proofs.Demand2Accepted.{exports-accepted}
 
-pub said : (x : Lent) (r : Answer) (l o : RefT (List ℕ)) → Runs x r l o
+pub said : (x : Lent) (r : HandedBack) (l o : RefT (List ℕ)) → Runs x r l o
     → (report (x .used) r ≡ reportOf (input x)) × (now o ≡ outputOf (input x)) × (now l ≡ ledgerOf (input x))
 said x r l o p = (search, search, search)
 
@@ -71,32 +73,32 @@ insert-some tag vr f (elem l t v g d) = step (ltb tag t)
     step false = field-some t v g _
 
 bytes-some : (i : Input) → 0 < length (bytesFor i)
-unfolding bytesFor written export marked
-bytes-some i = insert-some 0x0012_0062 CS _ _
+unfolding bytesFor written export withMarkers
+bytes-some i = insert-some patientIdentityRemovedTag CS _ _
 
 -- ---- the outcome
 
-pub refused-number : (i : Input) (n o : ℕ) → answer i ≡ refused n o → 1 ≤ n
+pub refused-number : (i : Input) (n o : ℕ) → outcomeOf i ≡ refused n o → 1 ≤ n
 refused-number i n o e = step (demand1 i .ends)
   where
-    step : (answer i ≡ done) ⊎ ((m : ℕ) × (p : ℕ) × (1 ≤ m) × (m ≤ 14) × (answer i ≡ refused m p)) → 1 ≤ n
+    step : (outcomeOf i ≡ done) ⊎ ((m : ℕ) × (p : ℕ) × (1 ≤ m) × (m ≤ noRoom) × (outcomeOf i ≡ refused m p)) → 1 ≤ n
     step (inl d) = absurd (let z : _≡_ {A = ℕ} 0 1 = cc in omega arith)
     step (inr q) = let z : q .0 ≡ n = cc in omega (arith, q .2)
 
-pub outcome-is : (i : Input) (used : ℕ) (r : Answer) → report used r ≡ reportOf i → outcome r ≡ answer i
+pub outcome-is : (i : Input) (used : ℕ) (r : HandedBack) → report used r ≡ reportOf i → outcome r ≡ outcomeOf i
 unfolding reportOf
-outcome-is i used (Refused n o) e = step (answer i) refl
+outcome-is i used (Refused n o) e = step (outcomeOf i) refl
   where
-    step : (a : Outcome) → answer i ≡ a → refused n o ≡ answer i
+    step : (a : Outcome) → outcomeOf i ≡ a → refused n o ≡ outcomeOf i
     step (refused m p) q =
         let f : report used (Refused n o) ≡ reportFor i (refused m p) = e ∙ ap (reportFor i) q in
         ap₂ refused (ap (λ z. z .refusal) f) (ap (λ z. z .offset) f) ∙ sym q
     step done q =
         let f : report used (Refused n o) ≡ reportFor i done = e ∙ ap (reportFor i) q in
-        absurd (omega (arith, ap (λ z. z .length) f, bytes-some i))
-outcome-is i used (Done t) e = step (answer i) refl
+        absurd (omega (arith, ap (λ z. z .written) f, bytes-some i))
+outcome-is i used (Done t) e = step (outcomeOf i) refl
   where
-    step : (a : Outcome) → answer i ≡ a → done ≡ answer i
+    step : (a : Outcome) → outcomeOf i ≡ a → done ≡ outcomeOf i
     step (refused m p) q =
         let f : report used (Done t) ≡ reportFor i (refused m p) = e ∙ ap (reportFor i) q in
         absurd (omega (arith, ap (λ z. z .refusal) f, refused-number i m p q))
@@ -120,7 +122,7 @@ running-demand2-other x r l o ran clear q out k e =
 
 -- ---- one outcome
 
-pub station-one : (x y : Lent) (r r′ : Answer) (l l′ o o′ : RefT (List ℕ)) → input x ≡ input y → Runs x r l o → Runs y r′ l′ o′
+pub station-one : (x y : Lent) (r r′ : HandedBack) (l l′ o o′ : RefT (List ℕ)) → input x ≡ input y → Runs x r l o → Runs y r′ l′ o′
     → (report (x .used) r ≡ report (y .used) r′) × (now o ≡ now o′) × (now l ≡ now l′)
 station-one x y r r′ l l′ o o′ i p q =
     let a = said x r l o p in

@@ -1,125 +1,101 @@
--- The premises of demands 1 and 2 can be met, and their statements shut wrong stations out (document 01, "Pinning every answer down"): an
--- input with a patient's name and two UIDs, which is accepted, and what some stations would answer to it. By computation. Assumes nothing.
---     input                        the name Doe^Jane, and the UIDs 1.2.30 and 1.2.31; no options, the root 1.9
---     exported                     its run is done and exports rightly
---     refusal-is-wrong             so no refusal is right
---     copy-is-wrong                nor is the input again, whatever the report and the ledger say
---     markers-alone-are-wrong      nor the markers and nothing else
---     one-uid-for-all-is-wrong     nor 1.9.1 for both UIDs
---     other-counts-are-wrong       nor other counts than two renamed elements and one replaced
-use mathlib.Core.Path.{_≡_, refl, ap, _∙_}
-use mathlib.Core.Bool.{true, and-eq-true-iff}
-use mathlib.Core.List.{List, [], _∷_, _++_}
-use Prim.Native.Nat.{ℕ, zero, suc}
-use native.Mathlib.Decide.{ℕ-discrete}
+-- Demands 1 and 2 shut the wrong stations of document 01, "Pinning every answer down", out: what each would leave of a data set that is
+-- accepted (`first` of `Exhibits.antt`) is none of what the demand allows. Against demand 3: `WrongStations3.antt`. Assumes nothing.
+--     exported                      the premises of demands 1 and 2 can be met: the run of this data set is done and exports rightly
+--     refuses-all-against-1         a station that refuses everything: no refusal is right, whatever is left behind it
+--     refuses-all-against-2         what it leaves is no export
+--     refuses-all-against-2-other   and demand 2's other half calls for an export
+--     markers-alone-against-2       one that writes the markers alone: the bytes of the kept element are missing
+--     copy-against-2                one that copies its input: the name is still there
+--     counts-against-2              one that counts as it likes: an export has these counts, and no others
+--     counts-as-defined             and for every accepted input the counts are those of the definition
+--     root-1-against-2              one that renames every UID to root.1
+use mathlib.Core.Path.{_≡_, refl, sym, ap, _∙_}
+use mathlib.Core.List.{List, Memᴰ·append-left}
+use Prim.Native.Nat.{ℕ}
 use native.Mathlib.Omega.{arith}
-use lib.Dec.{ltb}
-use borrow.Author.Tests.{ltb-true}
-use Rattle.basis.specs.Bytes.{AllBytes}
+use lib.ListN.{getD, drop}
+use Rattle.basis.specs.Choice.{among}
 use Rattle.basis.specs.Text.{ascii}
-use Rattle.basis.specs.Choice.{every, among}
-use Rattle.basis.specs.Pieces.{pieces, after, joined}
-use Rattle.vr.specs.Vr.{kindOf, servedByLists, dummyOf}
-use Rattle.layout.specs.Heads.{allowed, lengthFault, valueHead, sequenceHead, longHead, vrHead, tagHead, elementHead, itemBody, itemAt, itemHead}
-use Rattle.layout.specs.Read.{elementsAt, itemsAt, read}
-use Rattle.layout.specs.Tree.{bareField, bare, bareItems}
+use Rattle.vr.specs.Vr.{kindOf}
+use Rattle.layout.specs.Tree.{nil}
 use Rattle.layout.specs.Write.{mark, header, putElements, putField, putSequence, putItems, bytesOf}
-use Rattle.uid.specs.NewUid.{digitsIn, decimal, newUid}
-use Rattle.uid.specs.Scan.{uidSpan, digits, lead}
-use Rattle.uid.specs.Uid.{component, components, all, formed}
-use Rattle.uid.specs.Value.{ifUids, trimmed, uidsOf, padOf, valueOf}
-use Rattle.ledger.specs.Answer.{slotFor, ledgerFor}
-use Rattle.ledger.specs.Names.{place, number, learn, learns, numbers, sameName}
-use Rattle.ledger.specs.Slots.{slotOf, slotsIn, flat}
-use Rattle.calendar.specs.Dates.{leap, monthLen, dateOf, real}
-use Rattle.calendar.specs.Spans.{before, place as calendar-place}
-use Rattle.calendar.specs.Text.{twoDigits, dateAt, movedDate}
-use Rattle.calendar.specs.Values.{padded, datesEnd, shiftedText, allMove, shiftedValue}
-use Rattle.lists.specs.Lists.{entryAt, entriesFrom, entries, listOk}
-use Rattle.lists.specs.Lookup.{findFrom, find, asked}
-use Rattle.lists.specs.Number.{number as lists-number, numberAt}
-use Rattle.options.specs.Options.{chosenIn, optAt}
-use Rattle.options.specs.Settings.{settingsFault, dateWord}
-use Rattle.table.specs.Action.{actionFor, onRow, actionOf}
-use Rattle.table.specs.Override.{overriding}
-use Rattle.table.specs.Rows.{table}
-use Rattle.table.specs.Rules.{ruled}
-use Rattle.table.specs.Table.{rowIn, rising, legal}
-use Rattle.kept.specs.Content.{mapBody, mapContent, mapWalks, namesInBody, namesIn, namesInWalks, namesOf}
-use Rattle.kept.specs.Counts.{countsField, countsOf, countsItems}
-use Rattle.kept.specs.Fates.{fate}
-use Rattle.kept.specs.Faults.{fieldFault, firstFault, itemsFault}
-use Rattle.kept.specs.Fillers.{spaced, listed, emptiedAs, dummiedAs}
-use Rattle.kept.specs.Kept.{keptField, keptOf, keptItems}
-use Rattle.kept.specs.Marks.{codeItem, optionItems, codes, insert, marked}
-use Rattle.kept.specs.Numbering.{numberedBody, numbered, numberedWalks, numberedAll}
-use Rattle.kept.specs.Written.{shiftedAs, writtenField, writtenOf, writtenItems, export, written}
-use Rattle.answer.specs.Answer.{done, firstOf, answer, reportOf, outputOf, ledgerOf}
-use Rattle.answer.specs.Conditions.{condition1, condition2, condition3, condition4, condition5, shapeCondition, valueCondition, condition13, condition14}
-use Rattle.answer.specs.Input.{readAs, treeOf, content, slotsAfter, bytesFor}
-use lib.ListN.{getD, replicate}
-use Rattle.vr.specs.Names.{PN, UI}
-use Rattle.layout.specs.Tree.{value, nil, elem}
-use Rattle.answer.specs.Samples.{element, plain}
-use Rattle.answer.specs.Input.{Input}
-use Rattle.answer.specs.Answer.{refused, Report, filledUp}
-use Rattle.kept.specs.Counts.{counts}
-use Rattle.promises.specs.Demand1.{Answers}
-use Rattle.promises.specs.Demand2.{Exports}
-use Rattle.promises.proofs.Demand1Proof.{answers-one}
+use Rattle.options.specs.Options.{chosenIn}
+use Rattle.options.specs.Settings.{dateWord}
+use Rattle.treatment.specs.declared.Level.{Level}
+use Rattle.treatment.specs.declared.Level.the-variants.{Top}
+use Rattle.kept.specs.Counts.{counts, countsOf}
+use Rattle.kept.specs.Fillers.{spaced}
+use Rattle.kept.specs.Markers.{codeItem, optionItems, codes, insert, withMarkers}
+use Rattle.outcome.specs.Input.{Input, treeOf}
+use Rattle.outcome.specs.Conditions.{conditions}
+use Rattle.outcome.specs.Outcome.{refused, done, outcomeOf, Report, reportOf, outputOf, ledgerOf, filledUp}
+use Rattle.promises.specs.Demand1.{EndsRightly, Refuses}
+use Rattle.promises.specs.Demand2.{Exports, EarlyClear}
+use Rattle.promises.proofs.Demand1Proof.{demand1, outcomes-one}
 use Rattle.promises.proofs.Demand2Proof.{demand2}
 use Rattle.promises.proofs.Demand2One.{exports-one}
-use Rattle.promises.proofs.Witness.{bytes-are}
-
-abbrev lent : List ℕ
-lent = element 0x0010_0010 PN (ascii "Doe^Jane") ++ element 0x0020_000D UI (ascii "1.2.30") ++ element 0x0020_000E UI (ascii "1.2.31")
+use Rattle.promises.proofs.Exhibits.{first, inputFor, exportOf, bytes, said}
 
 abbrev input : Input
-input = record { lent = lent; settings = plain; ledger = replicate 128 0; used = 0; room = 400 }
-
--- the name emptied, and these two values for the UIDs
-abbrev exportOf : List ℕ → List ℕ → List ℕ
-exportOf u w =
-    filledUp 400 (bytesOf (marked 0 (elem tt 0x0010_0010 PN (value []) (elem tt 0x0020_000D UI (value u) (elem tt 0x0020_000E UI (value w) nil)))))
-
-abbrev first : List ℕ
-first = ascii "1.9.1" ++ 0 ∷ []
-
-abbrev second : List ℕ
-second = ascii "1.9.2" ++ 0 ∷ []
-
-bytes : AllBytes lent
-unfolding every header mark kindOf among
-bytes = bytes-are lent refl
-
-ran : (answer input ≡ done) × (outputOf input ≡ exportOf first second) × (reportOf input .counts ≡ counts 0 1 2 0)
-unfolding ℕ-discrete every among pieces after joined kindOf servedByLists dummyOf allowed lengthFault valueHead sequenceHead longHead vrHead tagHead elementHead itemBody itemAt itemHead elementsAt itemsAt read bareField bare bareItems mark header putElements putField putSequence putItems bytesOf digitsIn decimal newUid uidSpan digits lead component components all formed ifUids trimmed uidsOf padOf valueOf slotFor ledgerFor place number learn learns numbers sameName slotOf slotsIn flat leap monthLen dateOf real before calendar-place twoDigits dateAt movedDate padded datesEnd shiftedText allMove shiftedValue entryAt entriesFrom entries listOk findFrom find asked lists-number numberAt chosenIn optAt settingsFault dateWord actionFor onRow actionOf overriding table ruled rowIn rising legal mapBody mapContent mapWalks namesInBody namesIn namesInWalks namesOf countsField countsOf countsItems fate fieldFault firstFault itemsFault spaced listed emptiedAs dummiedAs keptField keptOf keptItems codeItem optionItems codes insert marked numberedBody numbered numberedWalks numberedAll shiftedAs writtenField writtenOf writtenItems export written firstOf answer reportOf outputOf ledgerOf condition1 condition2 condition3 condition4 condition5 shapeCondition valueCondition condition13 condition14 readAs treeOf content slotsAfter bytesFor
-ran = (refl, refl, refl)
+input = inputFor first
 
 pub exported : Exports input (reportOf input) (outputOf input) (ledgerOf input)
-exported = demand2 input bytes (ran .0)
+exported = demand2 input (bytes .of-first) (said .first-done)
 
-pub refusal-is-wrong : (n o : ℕ) (r : Report) (out l : List ℕ) → Answers input (refused n o) r out l → ⊥
-refusal-is-wrong n o r out l x =
-    let e : refused n o ≡ done = answers-one input (refused n o) r out l x ∙ ran .0 in
+-- an output that demand 2 allows is the right one, at each byte
+at-byte : (n : ℕ) (r : Report) (out l : List ℕ) → Exports input r out l → getD out n 0 ≡ getD (filledUp 400 (exportOf (ascii "1.9.1") (ascii "1.9.2"))) n 0
+at-byte n r out l x = ap (λ (b : List ℕ). getD b n 0) (exports-one input r out l x (said .first-done) .1 ∙ said .output)
+
+-- ---- refuses everything
+
+pub refuses-all-against-1 : (n o : ℕ) (r : Report) (out l : List ℕ) → EndsRightly input (refused n o) r out l → ⊥
+refuses-all-against-1 n o r out l x =
+    let e : refused n o ≡ done = outcomes-one input (refused n o) r out l x ∙ said .first-done in
     let z : _≡_ {A = ℕ} 0 1 = cc in
     omega arith
 
--- an output that the statement allows is the right one, at each byte
-at-byte : (n : ℕ) (r : Report) (out l : List ℕ) → Exports input r out l → getD out n 0 ≡ getD (exportOf first second) n 0
-at-byte n r out l x = ap (λ (b : List ℕ). getD b n 0) (exports-one input r out l x (ran .0) .1 ∙ ran .1)
+-- byte 0 is that of a tag, and not 0
+pub refuses-all-against-2 : (n o : ℕ) (r : Report) (out l : List ℕ) → Refuses (input .ledger) (input .used) (input .room) n o r out l → Exports input r out l → ⊥
+unfolding header mark kindOf among putElements putField putSequence putItems bytesOf codeItem optionItems codes insert withMarkers spaced chosenIn dateWord
+refuses-all-against-2 n o r out l q x =
+    let e : _≡_ {A = ℕ} 0 8 = ap (λ (b : List ℕ). getD b 0 0) (sym (q .output)) ∙ at-byte 0 r out l x in omega arith
 
-pub copy-is-wrong : (r : Report) (l : List ℕ) → Exports input r (filledUp 400 lent) l → ⊥
-unfolding header mark kindOf among putElements putField putSequence putItems bytesOf codeItem optionItems codes insert marked spaced chosenIn dateWord
-copy-is-wrong r l x = let e : _≡_ {A = ℕ} 8 0 = at-byte 6 r (filledUp 400 lent) l x in omega arith
+early-clear : EarlyClear input
+early-clear c m = demand1 input .done-when .0 (said .first-done) c (Memᴰ·append-left (drop 5 conditions) m)
 
-pub markers-alone-are-wrong : (r : Report) (l : List ℕ) → Exports input r (filledUp 400 (bytesOf (marked 0 nil))) l → ⊥
-unfolding header mark kindOf among putElements putField putSequence putItems bytesOf codeItem optionItems codes insert marked spaced chosenIn dateWord
-markers-alone-are-wrong r l x = let e : _≡_ {A = ℕ} 0x12 0x10 = at-byte 0 r (filledUp 400 (bytesOf (marked 0 nil))) l x in omega arith
+pub refuses-all-against-2-other : (n o : ℕ) → ((r : Report) (out l : List ℕ) → EarlyClear input → Exports input r out l → refused n o ≡ done) → ⊥
+refuses-all-against-2-other n o other =
+    let e : refused n o ≡ done = other (reportOf input) (outputOf input) (ledgerOf input) early-clear exported in
+    let z : _≡_ {A = ℕ} 0 1 = cc in
+    omega arith
 
-pub one-uid-for-all-is-wrong : (r : Report) (l : List ℕ) → Exports input r (exportOf first first) l → ⊥
-unfolding header mark kindOf among putElements putField putSequence putItems bytesOf codeItem optionItems codes insert marked spaced chosenIn dateWord
-one-uid-for-all-is-wrong r l x = let e : _≡_ {A = ℕ} 49 50 = at-byte 158 r (exportOf first first) l x in omega arith
+-- ---- writes the markers alone
 
-pub other-counts-are-wrong : (r : Report) (out l : List ℕ) → Exports input r out l → r .counts ≡ counts 0 1 2 0
-other-counts-are-wrong r out l x = ap (λ (q : Report). q .counts) (exports-one input r out l x (ran .0) .0) ∙ ran .2
+-- byte 0 is that of the kept element's tag, (0008,0060), and not of (0012,0062)
+pub markers-alone-against-2 : (r : Report) (l : List ℕ) → Exports input r (filledUp 400 (bytesOf (withMarkers 0 nil))) l → ⊥
+unfolding header mark kindOf among putElements putField putSequence putItems bytesOf codeItem optionItems codes insert withMarkers spaced chosenIn dateWord
+markers-alone-against-2 r l x = let e : _≡_ {A = ℕ} 0x12 0x08 = at-byte 0 r (filledUp 400 (bytesOf (withMarkers 0 nil))) l x in omega arith
+
+-- ---- copies its input
+
+-- byte 16 is the length of the name, which is to be emptied
+pub copy-against-2 : (r : Report) (l : List ℕ) → Exports input r (filledUp 400 first) l → ⊥
+unfolding header mark kindOf among putElements putField putSequence putItems bytesOf codeItem optionItems codes insert withMarkers spaced chosenIn dateWord
+copy-against-2 r l x = let e : _≡_ {A = ℕ} 8 0 = at-byte 16 r (filledUp 400 first) l x in omega arith
+
+-- ---- counts as it likes
+
+pub counts-against-2 : (r : Report) (out l : List ℕ) → Exports input r out l → r .counts ≡ counts 1 1 2 1
+counts-against-2 r out l x = ap (λ (q : Report). q .counts) (exports-one input r out l x (said .first-done) .0) ∙ said .counted
+
+pub counts-as-defined : (i : Input) (r : Report) (out l : List ℕ) → outcomeOf i ≡ done → Exports i r out l → r .counts ≡ countsOf (treeOf i) (i .settings) Top
+unfolding reportOf
+counts-as-defined i r out l ok x = ap (λ (q : Report). q .counts) (exports-one i r out l x ok .0) ∙ rw ok refl
+
+-- ---- renames every UID to root.1
+
+-- byte 168 is the last digit of the second UID
+pub root-1-against-2 : (r : Report) (l : List ℕ) → Exports input r (filledUp 400 (exportOf (ascii "1.9.1") (ascii "1.9.1"))) l → ⊥
+unfolding header mark kindOf among putElements putField putSequence putItems bytesOf codeItem optionItems codes insert withMarkers spaced chosenIn dateWord
+root-1-against-2 r l x =
+    let e : _≡_ {A = ℕ} 49 50 = at-byte 168 r (filledUp 400 (exportOf (ascii "1.9.1") (ascii "1.9.1"))) l x in omega arith

@@ -14,32 +14,34 @@ use Prim.Native.Nat.{ℕ}
 use lib.ListN.{length, take}
 use Rattle.basis.specs.Bytes.{AllBytes}
 use Rattle.layout.specs.Limits.{deepest}
+use Rattle.layout.specs.Source.{Source}
 use Rattle.layout.specs.Read.{read}
-use Rattle.kept.specs.Settings.{Settings}
-use Rattle.kept.specs.Fates.{top}
+use Rattle.treatment.specs.Settings.{Settings}
+use Rattle.treatment.specs.declared.Level.{Level}
+use Rattle.treatment.specs.declared.Level.the-variants.{Top}
 use Rattle.kept.specs.Content.{Content}
 use Rattle.kept.specs.Kept.{Uid, keptOf}
 use Rattle.kept.specs.Renaming.{OneRenaming}
-use Rattle.answer.specs.Input.{Input, treeIn}
-use Rattle.answer.specs.Answer.{Outcome, done, answer, reportOf, outputOf, ledgerOf}
+use Rattle.outcome.specs.Input.{Input, treeIn}
+use Rattle.outcome.specs.Outcome.{Outcome, done, outcomeOf, reportOf, outputOf, ledgerOf}
 
-unfoldable pub contentOf : Settings → List ℕ → Content Uid
-contentOf s x = keptOf (treeIn (read deepest x)) s top
+unfoldable pub contentOf : Settings → Source → Content Uid
+contentOf s x = keptOf (treeIn (read deepest x)) s Top
 
-abbrev pub started : Settings → List ℕ → ℕ → ℕ → List ℕ → Input
+abbrev pub started : Settings → List ℕ → ℕ → ℕ → Source → Input
 started s l n room x = record { lent = x; settings = s; ledger = l; used = n; room = room }
 
 abbrev pub exported : Input → List ℕ
-exported i = take (reportOf i .length) (outputOf i)
+exported i = take (reportOf i .written) (outputOf i)
 
--- "accepted" is `answer`'s own word; the data sets are bytes; each run may have its own room
-pub data Ran (s : Settings) : List ℕ → ℕ → List (List ℕ) → List (List ℕ) → Type 0 where
+-- "accepted" is `outcome`'s own word; the data sets are bytes, each in its encoding; each run may have its own room
+pub data Ran (s : Settings) : List ℕ → ℕ → List Source → List (List ℕ) → Type 0 where
   none : {l : List ℕ} {n : ℕ} → Ran s l n [] []
-  next : {l : List ℕ} {n : ℕ} {x : List ℕ} {xs outs : List (List ℕ)} (room : ℕ) → AllBytes x → answer (started s l n room x) ≡ done
+  next : {l : List ℕ} {n : ℕ} {x : Source} {xs : List Source} {outs : List (List ℕ)} (room : ℕ) → AllBytes (x .bytes) → outcomeOf (started s l n room x) ≡ done
       → Ran s (ledgerOf (started s l n room x)) (reportOf (started s l n room x) .used) xs outs
       → Ran s l n (x ∷ xs) (exported (started s l n room x) ∷ outs)
 
 abbrev pub Demand3 : Type 0
 Demand3 =
-    (s : Settings) (l k : List ℕ) (xs ys outs ends : List (List ℕ)) → length xs ≡ length ys → Ran s l 0 xs outs → Ran s k 0 ys ends
+    (s : Settings) (l k : List ℕ) (xs ys : List Source) (outs ends : List (List ℕ)) → length xs ≡ length ys → Ran s l 0 xs outs → Ran s k 0 ys ends
     → (outs ≡ ends) ↔ OneRenaming (map (contentOf s) xs) (map (contentOf s) ys)

@@ -11,6 +11,7 @@ use Prim.Native.Nat.{ℕ, _<_}
 use Rattle.basis.specs.Text.{ascii}
 use Rattle.vr.specs.Names.{CS, LO, SH, SQ}
 use Rattle.layout.specs.Tree.{Field, value, items, nil, elem, Items, none as noItem, item, Data}
+use Rattle.table.specs.Rules.{patientIdentityRemovedTag, deidentificationCodesTag, longitudinalTimeTag}
 use Rattle.options.specs.Options.{options, codeOf, meaningOf, basicCode, basicMeaning, isChosen}
 use Rattle.options.specs.Settings.{dateWord}
 use Rattle.options.specs.declared.Opt.{Opt}
@@ -40,13 +41,13 @@ pub record GainsMarkers (number : ℕ) (ds es : Data) : Type 0 where
   pub word : List ℕ
   pub word-is : Evened (dateWord number) word
   pub dated : Data
-  pub gains-word : Gains 0x0028_0303 CS (value word) ds dated
+  pub gains-word : Gains longitudinalTimeTag CS (value word) ds dated
   -- (0012,0064): an item for the profile, and one for each chosen option by rising code
   pub profile : Data
   pub profile-is : CodeItem basicCode basicMeaning profile
   pub chosen : Items (Unit {0})
   pub chosen-are : OptionItems number options chosen
   pub coded : Data
-  pub gains-codes : Gains 0x0012_0064 SQ (items (item profile chosen)) dated coded
+  pub gains-codes : Gains deidentificationCodesTag SQ (items (item profile chosen)) dated coded
   -- (0012,0062)
-  pub gains-yes : Gains 0x0012_0062 CS (value (ascii "YES ")) coded es
+  pub gains-yes : Gains patientIdentityRemovedTag CS (value (ascii "YES ")) coded es

@@ -17,6 +17,7 @@ use mir.Facts.{toZ-ofZ}
 use lib.ListN.{length}
 use borrow.Author.Tests.{lt-ltb, le-ltb, ltb-false}
 use Rattle.basis.specs.Choice.{pick}
+use Rattle.refusals.specs.Refusals.{badSettings, badRoot, badCount, badList, tooLong}
 use Rattle.layout.specs.Limits.{longest}
 use Rattle.uid.specs.Uid.{isRoot, longestRoot}
 use Rattle.uid.proofs.UidLaws.{uidUpto-is}
@@ -25,6 +26,7 @@ use Rattle.lists.specs.Lists.{listOk}
 use Rattle.options.specs.Settings.{mostShift, settingsFault}
 use Rattle.options.proofs.SettingsLaws.{settingsFault-shift}
 use Rattle.options.proofs.SignLaws.{fits-i32}
+use Rattle.treatment.specs.Settings.{Settings}
 use Rattle.station.specs.Steps.{early}
 
 not-false : (b : Bool) → not b ≡ false → b ≡ true
@@ -36,45 +38,45 @@ not-true false e = refl
 not-true true e = sym e
 
 -- each answer of a test comes with the equation that says what it is
-module _ (lent : List ℕ) (options : ℕ) (shift : ℤ) (root study site ledger : List ℕ) (used : ℕ) {a : Bool} (a-is : a ≡ settingsFault options shift) where
-  pub first-1 : a ≡ true → 1 ≡ early lent options shift root study site ledger used
+module _ (n : ℕ) (s : Settings) (ledger : List ℕ) (used : ℕ) {a : Bool} (a-is : a ≡ settingsFault (s .options) (s .shift)) where
+  pub first-1 : a ≡ true → badSettings ≡ early n s ledger used
   unfolding early
   first-1 e = rw (sym a-is ∙ e)
 
-  module _ (not-a : a ≡ false) {b : Bool} (b-is : b ≡ isRoot root) where
-    pub first-2 : not b ≡ true → 2 ≡ early lent options shift root study site ledger used
+  module _ (not-a : a ≡ false) {b : Bool} (b-is : b ≡ isRoot (s .root)) where
+    pub first-2 : not b ≡ true → badRoot ≡ early n s ledger used
     unfolding early
     first-2 e = rw (sym a-is ∙ not-a, sym b-is ∙ not-true b e)
 
-    module _ (not-b : not b ≡ false) {n : ℕ} (n-is : n ≡ slotsOf ledger) where
-      pub first-3 : n < used → 3 ≡ early lent options shift root study site ledger used
+    module _ (not-b : not b ≡ false) {m : ℕ} (m-is : m ≡ slotsOf ledger) where
+      pub first-3 : m < used → badCount ≡ early n s ledger used
       unfolding early
       first-3 h = rw (sym a-is ∙ not-a, sym b-is ∙ not-false b not-b, lt-ltb (slotsOf ledger) used (omega arith))
 
-      module _ (not-n : used ≤ n) {c : Bool} (c-is : c ≡ listOk study) where
-        pub first-4 : not c ≡ true → 4 ≡ early lent options shift root study site ledger used
+      module _ (not-m : used ≤ m) {c : Bool} (c-is : c ≡ listOk (s .study)) where
+        pub first-4 : not c ≡ true → badList ≡ early n s ledger used
         unfolding early
         first-4 e = rw (sym a-is ∙ not-a, sym b-is ∙ not-false b not-b, le-ltb (slotsOf ledger) used (omega arith), sym c-is ∙ not-true c e)
 
-        module _ (not-c : not c ≡ false) {d : Bool} (d-is : d ≡ listOk site) where
-          pub first-4′ : not d ≡ true → 4 ≡ early lent options shift root study site ledger used
+        module _ (not-c : not c ≡ false) {d : Bool} (d-is : d ≡ listOk (s .site)) where
+          pub first-4′ : not d ≡ true → badList ≡ early n s ledger used
           unfolding early
           first-4′ e =
               rw (sym a-is ∙ not-a, sym b-is ∙ not-false b not-b, le-ltb (slotsOf ledger) used (omega arith), sym c-is ∙ not-false c not-c, sym d-is ∙ not-true d e)
 
           module _ (not-d : not d ≡ false) where
-            by-length : early lent options shift root study site ledger used ≡ pick (ltb longest (length lent)) 5 0
+            by-length : early n s ledger used ≡ pick (ltb longest n) tooLong 0
             unfolding early
             by-length =
                 rw (sym a-is ∙ not-a, sym b-is ∙ not-false b not-b, le-ltb (slotsOf ledger) used (omega arith), sym c-is ∙ not-false c not-c, sym d-is ∙ not-false d not-d)
 
-            pub first-5 : longest < length lent → 5 ≡ early lent options shift root study site ledger used
-            first-5 h = rw (by-length, lt-ltb longest (length lent) h)
+            pub first-5 : longest < n → tooLong ≡ early n s ledger used
+            first-5 h = rw (by-length, lt-ltb longest n h)
 
-            pub first-none : length lent ≤ longest → 0 ≡ early lent options shift root study site ledger used
-            first-none h = rw (by-length, le-ltb longest (length lent) h)
+            pub first-none : n ≤ longest → 0 ≡ early n s ledger used
+            first-none h = rw (by-length, le-ltb longest n h)
 
-none-of-five : (a b c d e : Bool) → _≡_ {A = ℕ} 0 (pick a 1 (pick b 2 (pick c 3 (pick d 4 (pick e 5 0))))) → (a ≡ false) × (b ≡ false) × (c ≡ false) × (e ≡ false)
+none-of-five : (a b c d e : Bool) → _≡_ {A = ℕ} 0 (pick a badSettings (pick b badRoot (pick c badCount (pick d badList (pick e tooLong 0))))) → (a ≡ false) × (b ≡ false) × (c ≡ false) × (e ≡ false)
 none-of-five true b c d e z = absurd (omega arith)
 none-of-five false true c d e z = absurd (omega arith)
 none-of-five false false true d e z = absurd (omega arith)
@@ -82,20 +84,20 @@ none-of-five false false false true e z = absurd (omega arith)
 none-of-five false false false false true z = absurd (omega arith)
 none-of-five false false false false false z = (refl, refl, refl, refl)
 
-pub record NotEarly (lent : List ℕ) (shift : ℤ) (root ledger : List ℕ) (used : ℕ) : Type 0 where
-  pub days : natAbs shift ≤ mostShift
-  pub root-fits : length root ≤ longestRoot
+pub record NotEarly (n : ℕ) (s : Settings) (ledger : List ℕ) (used : ℕ) : Type 0 where
+  pub days : natAbs (s .shift) ≤ mostShift
+  pub root-fits : length (s .root) ≤ longestRoot
   pub slots : used ≤ slotsOf ledger
-  pub short : length lent ≤ longest
+  pub short : n ≤ longest
 
-pub not-early : (lent : List ℕ) (options : ℕ) (shift : ℤ) (root study site ledger : List ℕ) (used n : ℕ)
-    → n ≡ early lent options shift root study site ledger used → n ≡ 0 → NotEarly lent shift root ledger used
+pub not-early : (n : ℕ) (s : Settings) (ledger : List ℕ) (used m : ℕ) → m ≡ early n s ledger used → m ≡ 0 → NotEarly n s ledger used
 unfolding early
-not-early lent options shift root study site ledger used n e z =
-    let f = none-of-five (settingsFault options shift) (not (isRoot root)) (ltb (slotsOf ledger) used) (not (listOk study && listOk site)) (ltb longest (length lent)) (sym z ∙ e) in
+not-early n s ledger used m e z =
+    let f = none-of-five (settingsFault (s .options) (s .shift)) (not (isRoot (s .root))) (ltb (slotsOf ledger) used)
+    (not (listOk (s .study) && listOk (s .site))) (ltb longest n) (sym z ∙ e) in
     record {
-      days = settingsFault-shift options shift (f .0);
-      root-fits = uidUpto-is longestRoot root (not-false _ (f .1)) .upto;
+      days = settingsFault-shift (s .options) (s .shift) (f .0);
+      root-fits = uidUpto-is longestRoot (s .root) (not-false _ (f .1)) .upto;
       slots = ltb-false _ _ (f .2);
       short = ltb-false _ _ (f .3);
     }

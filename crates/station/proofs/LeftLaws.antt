@@ -17,7 +17,7 @@ use Rattle.buffer.proofs.Laws.{cleared-laid, laid-none}
 use Rattle.ledger.specs.Slots.{slotSize, mostSlots, slotsOf}
 use Rattle.ledger.proofs.LaidLaws.{laid-same}
 use Rattle.ledger.proofs.SlotLaws.{slotsOf-fits}
-use Rattle.answer.specs.Answer.{filledUp}
+use Rattle.outcome.specs.Outcome.{filledUp}
 use Rattle.station.specs.Steps.{zeroed, left}
 
 pub cleared-filled : (o : List ℕ) (p : ℕ) → p ≤ length o → cleared o p ≡ filledUp (length o) (take p o)

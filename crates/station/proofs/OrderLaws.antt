@@ -4,7 +4,7 @@
 --     earlyOutcome n       the outcome of a number of `early`
 --     shapeOutcome r       the outcome of a judgement of shape and values
 --     endOutcome i         the outcome by the slots and the room
---     answer-is            the answer is these three, one after the other
+--     outcome-is-joined    the outcome is these three, one after the other
 use mathlib.Core.Path.{_≡_, refl, sym, ap, ap₂, _∙_}
 use mathlib.Core.Bool.{Bool, true, false, not, _&&_, _||_}
 use mathlib.Core.Logic.{_⊎_, inl, inr}
@@ -27,19 +27,21 @@ use Rattle.uid.specs.Uid.{isRoot}
 use Rattle.ledger.specs.Slots.{slotsOf}
 use Rattle.lists.specs.Lists.{listOk}
 use Rattle.options.specs.Settings.{settingsFault}
-use Rattle.kept.specs.Fates.{top}
+use Rattle.treatment.specs.declared.Level.{Level}
+use Rattle.treatment.specs.declared.Level.the-variants.{Top}
 use Rattle.kept.specs.Faults.{Fault as ValueFault, firstFault}
 use Rattle.kept.proofs.FaultsLaws.{Eleven, firstFault-number}
-use Rattle.answer.specs.Input.{Input, readAs, treeOf, slotsAfter, bytesFor}
-use Rattle.answer.specs.Conditions.{when, condition1, condition2, condition3, condition4, condition5, shapeCondition, valueIs, valueCondition, condition13, condition14}
-use Rattle.answer.specs.Answer.{Outcome, refused, done, firstOf, answer}
-use Rattle.values.specs.Judged.{judged}
+use Rattle.outcome.specs.Input.{Input, readAs, treeOf, slotsAfter, bytesFor}
+use Rattle.outcome.specs.Conditions.{Condition, atStart, condition1, condition2, condition3, condition4, condition5, shapeCondition, valueIs, valueCondition, condition13, condition14}
+use Rattle.outcome.specs.Outcome.{Outcome, refused, done, firstOf, outcomeOf}
+use Rattle.judge_values.specs.Judged.{judged}
+use Rattle.station.specs.Entry.{told}
 use Rattle.station.specs.Steps.{early, judgedAs}
 
 -- ---- conditions, joined
 
 abbrev Tests : Type 0
-Tests = List (ℕ × (Input → Option ℕ))
+Tests = List (Condition Input)
 
 abbrev pub joined : Outcome → Outcome → Outcome
 joined (refused n o) y = refused n o
@@ -73,22 +75,23 @@ earlyOutcome zero = done
 earlyOutcome (suc n) = refused (suc n) 0
 
 abbrev pub earlyOf : Input → ℕ
-earlyOf i = early (i .lent) (i .settings .options) (i .settings .shift) (i .settings .root) (i .settings .study) (i .settings .site) (i .ledger) (i .used)
+earlyOf i = early (length (i .lent .bytes)) (i .settings) (i .ledger) (i .used)
 
 -- the number that the code found, for a shift that is the input's
 pub early-for : (i : Input) {shift : ℤ} → shift ≡ i .settings .shift → {n : ℕ}
-    → n ≡ early (i .lent) (i .settings .options) shift (i .settings .root) (i .settings .study) (i .settings .site) (i .ledger) (i .used) → n ≡ earlyOf i
+    → n ≡ early (length (i .lent .bytes)) (told (i .settings .options) shift (i .settings .root) (i .settings .study) (i .settings .site)) (i .ledger) (i .used)
+    → n ≡ earlyOf i
 early-for i e f =
-    f ∙ ap (λ z. early (i .lent) (i .settings .options) z (i .settings .root) (i .settings .study) (i .settings .site) (i .ledger) (i .used)) e
+    f ∙ ap (λ z. early (length (i .lent .bytes)) (told (i .settings .options) z (i .settings .root) (i .settings .study) (i .settings .site)) (i .ledger) (i .used)) e
 
 early-is : (i : Input) → firstOf earlyTests i ≡ earlyOutcome (earlyOf i)
 unfolding early firstOf condition1 condition2 condition3 condition4 condition5
 early-is i =
     five (settingsFault (i .settings .options) (i .settings .shift)) (not (isRoot (i .settings .root))) (ltb (slotsOf (i .ledger)) (i .used))
-    (not (listOk (i .settings .study) && listOk (i .settings .site))) (ltb longest (length (i .lent)))
+    (not (listOk (i .settings .study) && listOk (i .settings .site))) (ltb longest (length (i .lent .bytes)))
   where
     five : (a b c d e : Bool)
-        → tried (when a 0) 1 (tried (when b 0) 2 (tried (when c 0) 3 (tried (when d 0) 4 (tried (when e 0) 5 done))))
+        → tried (atStart a) 1 (tried (atStart b) 2 (tried (atStart c) 3 (tried (atStart d) 4 (tried (atStart e) 5 done))))
         ≡ earlyOutcome (pick a 1 (pick b 2 (pick c 3 (pick d 4 (pick e 5 0)))))
     five true b c d e = refl
     five false true c d e = refl
@@ -149,21 +152,21 @@ shapeOutcome (Fine past) = done
 
 module _ (i : Input) where
   value-is : (es : Elements Place) (past : ℕ) → readAs i ≡ good es past
-      → firstOf (numbered valueCondition valueNumbers) i ≡ shapeOutcome (judged (firstFault es (i .settings) top) past)
+      → firstOf (numbered valueCondition valueNumbers) i ≡ shapeOutcome (judged (firstFault es (i .settings) Top) past)
   unfolding valueCondition treeOf
-  value-is es past e = step (firstFault es (i .settings) top) refl (firstFault-number es (i .settings) top)
+  value-is es past e = step (firstFault es (i .settings) Top) refl (firstFault-number es (i .settings) Top)
     where
-      at : (x : Option ValueFault) → firstFault es (i .settings) top ≡ x → (n : ℕ) → valueCondition n i ≡ valueIs n x
+      at : (x : Option ValueFault) → firstFault es (i .settings) Top ≡ x → (n : ℕ) → valueCondition n i ≡ valueIs n x
       at x q n = rw (e, q)
 
-      step : (x : Option ValueFault) → firstFault es (i .settings) top ≡ x → Eleven x
+      step : (x : Option ValueFault) → firstFault es (i .settings) Top ≡ x → Eleven x
           → firstOf (numbered valueCondition valueNumbers) i ≡ shapeOutcome (judged x past)
       step none q w = none-of valueCondition i (at none q) valueNumbers
       step (some f) q w =
           one-of valueCondition i (f .number) (f .offset) (at (some f) q) valueNumbers
           ∙ ap (λ b. pick b (refused (f .number) (f .offset)) done) (is-value (f .number) w)
 
-  shape-number : (n o : ℕ) → readAs i ≡ fault n o → (6 ≤ n) × (n ≤ 10) × (o ≤ length (i .lent))
+  shape-number : (n o : ℕ) → readAs i ≡ fault n o → (6 ≤ n) × (n ≤ 10) × (o ≤ length (i .lent .bytes))
   unfolding readAs
   shape-number n o e = read-fault deepest (i .lent) n o e
 
@@ -192,16 +195,16 @@ end-is : (i : Input) → firstOf endTests i ≡ endOutcome i
 unfolding firstOf condition13 condition14
 end-is i = two (ltb (slotsOf (i .ledger)) (length (slotsAfter i))) (ltb (i .room) (length (bytesFor i)))
   where
-    two : (a b : Bool) → tried (when a 0) 13 (tried (when b 0) 14 done) ≡ pick a (refused 13 0) (pick b (refused 14 0) done)
+    two : (a b : Bool) → tried (atStart a) 13 (tried (atStart b) 14 done) ≡ pick a (refused 13 0) (pick b (refused 14 0) done)
     two true b = refl
     two false true = refl
     two false false = refl
 
 -- ---- all of them
 
-pub answer-is : (i : Input) → answer i ≡ joined (earlyOutcome (earlyOf i)) (joined (shapeOutcome (judgedAs (i .settings) (readAs i))) (endOutcome i))
-unfolding answer numbered
-answer-is i =
+pub outcome-is-joined : (i : Input) → outcomeOf i ≡ joined (earlyOutcome (earlyOf i)) (joined (shapeOutcome (judgedAs (i .settings) (readAs i))) (endOutcome i))
+unfolding outcomeOf numbered
+outcome-is-joined i =
     firstOf-append earlyTests (numbered shapeCondition shapeNumbers ++ (numbered valueCondition valueNumbers ++ endTests)) i
     ∙ ap₂ joined (early-is i)
     (firstOf-append (numbered shapeCondition shapeNumbers) (numbered valueCondition valueNumbers ++ endTests) i

@@ -1,4 +1,4 @@
--- A run of the entry, step by step, against `answer`: what each way out leaves is what the definition says. Laws over the results of the
+-- A run of the entry, step by step, against `outcomeOf`: what each way out leaves is what the definition says. Laws over the results of the
 -- steps; no contract cites this file. Assumes nothing.
 --     Right i r o l         the entry's three claims of the answer r, the output o and the ledger l that it leaves
 --     Found i, found        a judgement without fault: the tree that was read, without a fault among its values
@@ -13,7 +13,6 @@ use mathlib.Core.Option.{Option, none, some}
 use Prim.Native.Nat.{ℕ, zero, suc, _*_, _≤_, _<_}
 use native.Mathlib.Omega.{arith}
 use lib.Dec.{ltb}
-use lib.IntN.{ℤ}
 use lib.ListN.{length}
 use borrow.Author.Tests.{lt-ltb, le-ltb, ltb-true, ltb-false}
 use Rattle.basis.specs.Choice.{pick}
@@ -25,32 +24,36 @@ use Rattle.layout.specs.declared.Shape.{Shape}
 use Rattle.layout.specs.declared.Shape.the-variants.{Fine, Fault}
 use Rattle.ledger.specs.Slots.{slotSize, slotsOf, slotOf, flat}
 use Rattle.ledger.proofs.SlotLaws.{Sized, slotsOf-fits, sized-slotsIn, sized-learns, length-flat}
-use Rattle.kept.specs.Fates.{top}
-use Rattle.kept.specs.Content.{namesIn}
+use Rattle.treatment.specs.Settings.{settingsOf, Given}
+use Rattle.treatment.specs.declared.SettingNumbers.{SettingNumbers}
+use Rattle.treatment.specs.declared.Level.{Level}
+use Rattle.treatment.specs.declared.Level.the-variants.{Top}
+use Rattle.kept.specs.Content.{uidsIn}
 use Rattle.kept.specs.Counts.{Counts, counts, countsOf}
 use Rattle.kept.specs.Faults.{Fault as ValueFault, firstFault}
 use Rattle.kept.proofs.UidsLaws.{kept-uids, sized-uids}
-use Rattle.answer.specs.Input.{Input, readAs, treeIn, treeOf, content, inUse, slotsAfter, bytesFor}
-use Rattle.answer.specs.Answer.{refused, done, answer, Report, reportFor, reportOf, filledUp, outputFor, outputOf, ledgerFor, ledgerOf}
-use Rattle.values.specs.Judged.{judged}
-use Rattle.write.specs.Whole.{Ended, Whole}
-use Rattle.act.specs.declared.Progress.{Progress}
-use Rattle.act.specs.declared.Walk.{Walk}
-use Rattle.act.specs.declared.Walk.the-variants.{Stop, To}
+use Rattle.outcome.specs.Input.{Input, readAs, treeIn, treeOf, content, inUse, slotsAfter, bytesFor}
+use Rattle.outcome.specs.Outcome.{refused, done, outcomeOf, Report, reportFor, reportOf, filledUp, outputFor, outputOf, ledgerFor, ledgerOf}
+use Rattle.judge_values.specs.Judged.{judged}
+use Rattle.write_walk.specs.Whole.{Ended, Whole}
+use Rattle.write_state.specs.declared.Progress.{Progress}
+use Rattle.write_state.specs.declared.Walk.{Walk}
+use Rattle.write_state.specs.declared.Walk.the-variants.{Stop, To}
 use Rattle.station.specs.Entry.{report}
 use Rattle.station.specs.Steps.{judgedAs, Judged, zeroed, left, Counted, finished, finishedOutput, finishedLedger}
-use Rattle.station.specs.declared.Outcome.{Outcome}
-use Rattle.station.specs.declared.Outcome.the-variants.{Refused, Done}
+use Rattle.station.specs.declared.HandedBack.{HandedBack}
+use Rattle.station.specs.declared.HandedBack.the-variants.{Refused, Done}
+use Rattle.station.proofs.JudgeLaws.{given-settings}
 use Rattle.station.proofs.LeftLaws.{slots-same, left-same}
-use Rattle.station.proofs.OrderLaws.{joined, earlyOutcome, shapeOutcome, earlyOf, endOutcome, answer-is}
+use Rattle.station.proofs.OrderLaws.{joined, earlyOutcome, shapeOutcome, earlyOf, endOutcome, outcome-is-joined}
 
-pub record Right (i : Input) (r : Outcome) (o l : List ℕ) : Type 0 where
+pub record Right (i : Input) (r : HandedBack) (o l : List ℕ) : Type 0 where
   pub told : report (i .used) r ≡ reportOf i
   pub output : o ≡ outputOf i
   pub ledger : l ≡ ledgerOf i
 
--- a refusal, once `answer` is known to be one
-refuses : (i : Input) (n k : ℕ) → answer i ≡ refused n k → (o : List ℕ) → length o ≡ i .room → {r : Outcome} {o′ l′ : List ℕ}
+-- a refusal, once the outcome is known to be one
+refuses : (i : Input) (n k : ℕ) → outcomeOf i ≡ refused n k → (o : List ℕ) → length o ≡ i .room → {r : HandedBack} {o′ l′ : List ℕ}
     → r ≡ Refused n k → o′ ≡ zeroed o → l′ ≡ left (i .ledger) (i .used) → Right i r o′ l′
 unfolding reportOf outputOf ledgerOf
 refuses i n k a o size e zo zl = record {
@@ -63,15 +66,15 @@ refuses i n k a o size e zo zl = record {
 after-sized : (i : Input) → i .used ≤ slotsOf (i .ledger) → Sized (slotsAfter i)
 unfolding slotsAfter content
 after-sized i h =
-    sized-learns (inUse i) (map slotOf (namesIn (content i))) (sized-slotsIn (i .ledger) (i .used) (slotsOf-fits (i .ledger) (i .used) h))
-    (sized-uids (namesIn (content i)) (kept-uids (treeOf i) (i .settings) top))
+    sized-learns (inUse i) (map slotOf (uidsIn (content i))) (sized-slotsIn (i .ledger) (i .used) (slotsOf-fits (i .ledger) (i .used) h))
+    (sized-uids (uidsIn (content i)) (kept-uids (treeOf i) (i .settings) Top))
 
 -- a judgement without fault: there is a tree, and no fault among its values
 pub record Found (i : Input) : Type 0 where
   pub tree : Elements Place
   pub past : ℕ
   pub reads : readAs i ≡ good tree past
-  pub sound : firstFault tree (i .settings) top ≡ none
+  pub sound : firstFault tree (i .settings) Top ≡ none
 
 found : (i : Input) (past : ℕ) → Fine past ≡ judgedAs (i .settings) (readAs i) → Found i
 found i past fine = step (readAs i) refl fine
@@ -81,7 +84,7 @@ found i past fine = step (readAs i) refl fine
     no-fault q (some f) e = absurd (let z : _≡_ {A = ℕ} 0 1 = cc in omega arith)
 
     step : (x : Result (Elements Place)) → readAs i ≡ x → Fine past ≡ judgedAs (i .settings) x → Found i
-    step (good es q) e f = record { tree = es; past = q; reads = e; sound = no-fault q (firstFault es (i .settings) top) f }
+    step (good es q) e f = record { tree = es; past = q; reads = e; sound = no-fault q (firstFault es (i .settings) Top) f }
     step (fault n k) e f = absurd (let z : _≡_ {A = ℕ} 0 1 = cc in omega arith)
 
 tree-is : (i : Input) (f : Found i) → treeOf i ≡ f .tree
@@ -91,20 +94,21 @@ tree-is i f = ap treeIn (f .reads)
 -- ---- done
 
 report-is : {n n′ u u′ : ℕ} {c c′ : Counts} → n ≡ n′ → u ≡ u′ → c ≡ c′
-    → _≡_ {A = Report} (record { refusal = 0; offset = 0; length = n; used = u; counts = c }) (record { refusal = 0; offset = 0; length = n′; used = u′; counts = c′ })
+    → _≡_ {A = Report} (record { refusal = 0; offset = 0; written = n; used = u; counts = c }) (record { refusal = 0; offset = 0; written = n′; used = u′; counts = c′ })
 report-is a b c = rw (a, b, c)
 
 module _ (i : Input) (o : List ℕ) (size : length o ≡ i .room) (fits : i .used ≤ slotsOf (i .ledger)) (f : Found i) where
-  done-right : (past : ℕ) (t : Progress) {o₁ l₁ : List ℕ} → Ended i (f .tree) (f .past) o o₁ (i .ledger) l₁ (To past t) → t .pos ≤ length o → answer i ≡ done
-      → {r : Outcome} {o₂ l₂ : List ℕ} → r ≡ Done t → o₂ ≡ cleared o₁ (t .pos) → l₂ ≡ cleared l₁ (slotSize * t .used) → Right i r o₂ l₂
+  done-right : (past : ℕ) (t : Progress) {o₁ l₁ : List ℕ} → Ended i (f .tree) (f .past) o o₁ (i .ledger) l₁ 0 (To past t) → t .pos ≤ length o → outcomeOf i ≡ done
+      → {r : HandedBack} {o₂ l₂ : List ℕ} → r ≡ Done t → o₂ ≡ cleared o₁ (t .pos) → l₂ ≡ cleared l₁ (slotSize * t .used) → Right i r o₂ l₂
   unfolding reportOf outputOf ledgerOf
   done-right past t {o₁} {l₁} e room ok a b c =
+      let pos-is : t .pos ≡ length (bytesFor i) = omega (arith, e .0) in
       let n : length (flat (slotsAfter i)) ≡ slotSize * length (slotsAfter i) = length-flat (slotsAfter i) (after-sized i fits) in
       let m : slotSize * t .used ≤ length (i .ledger) = slotsOf-fits (i .ledger) (t .used) (e .5) in
       record {
-        told = ap (report (i .used)) a ∙ report-is (e .0) (e .2) (e .4 ∙ ap (λ es. countsOf es (i .settings) top) (sym (tree-is i f))) ∙ sym (ap (reportFor i) ok);
+        told = ap (report (i .used)) a ∙ report-is pos-is (e .2) (e .4 ∙ ap (λ es. countsOf es (i .settings) Top) (sym (tree-is i f))) ∙ sym (ap (reportFor i) ok);
         output =
-            b ∙ ap₂ cleared (e .1) (e .0) ∙ cleared-laid o (bytesFor i) (omega (arith, e .0))
+            b ∙ ap₂ cleared (e .1) pos-is ∙ cleared-laid o (bytesFor i) (omega (arith, pos-is))
             ∙ ap (λ k. filledUp k (bytesFor i)) size ∙ sym (ap (outputFor i) ok);
         ledger =
             c ∙ ap₂ cleared (e .3) (ap (λ k. slotSize * k) (e .2) ∙ sym n) ∙ cleared-laid (i .ledger) (flat (slotsAfter i)) (omega (arith, e .2))
@@ -114,60 +118,60 @@ module _ (i : Input) (o : List ℕ) (size : length o ≡ i .room) (fits : i .use
 -- ---- one step after the other
 
 module _ (i : Input) (o : List ℕ) (size : length o ≡ i .room) (n : ℕ) (first : n ≡ earlyOf i) where
-  early-answer : (m : ℕ) → n ≡ m → (m ≡ 0 → ⊥) → answer i ≡ refused m 0
+  early-answer : (m : ℕ) → n ≡ m → (m ≡ 0 → ⊥) → outcomeOf i ≡ refused m 0
   early-answer zero e h = absurd (h refl)
-  early-answer (suc m) e h = answer-is i ∙ ap (λ k. joined (earlyOutcome k) (joined (shapeOutcome (judgedAs (i .settings) (readAs i))) (endOutcome i))) (sym first ∙ e)
+  early-answer (suc m) e h = outcome-is-joined i ∙ ap (λ k. joined (earlyOutcome k) (joined (shapeOutcome (judgedAs (i .settings) (readAs i))) (endOutcome i))) (sym first ∙ e)
 
   -- 1 to 5
-  pub refused-early : (n ≡ 0 → ⊥) → {r : Outcome} {o′ l′ : List ℕ} → r ≡ Refused n 0 → o′ ≡ zeroed o → l′ ≡ left (i .ledger) (i .used)
+  pub refused-early : (n ≡ 0 → ⊥) → {r : HandedBack} {o′ l′ : List ℕ} → r ≡ Refused n 0 → o′ ≡ zeroed o → l′ ≡ left (i .ledger) (i .used)
       → Right i r o′ l′
   refused-early h = refuses i n 0 (early-answer n refl h) o size
 
-  module _ (none-early : n ≡ 0) {days : ℤ} (same : i .settings .shift ≡ days) {j : Shape} (judges : Judged (i .settings .options) days (i .lent) j) where
+  module _ (none-early : n ≡ 0) {m : SettingNumbers} (has : Given m (i .settings)) {j : Shape} (judges : Judged m (i .lent) j) where
     judgement : j ≡ judgedAs (i .settings) (readAs i)
     unfolding readAs
-    judgement = judges .right (i .settings) refl same
+    judgement = judges .right (i .settings) has
 
-    late-answer : answer i ≡ joined (shapeOutcome j) (endOutcome i)
-    late-answer = answer-is i ∙ ap₂ (λ k x. joined (earlyOutcome k) (joined (shapeOutcome x) (endOutcome i))) (sym first ∙ none-early) (sym judgement)
+    late-answer : outcomeOf i ≡ joined (shapeOutcome j) (endOutcome i)
+    late-answer = outcome-is-joined i ∙ ap₂ (λ k x. joined (earlyOutcome k) (joined (shapeOutcome x) (endOutcome i))) (sym first ∙ none-early) (sym judgement)
 
     -- 6 to 12
-    pub refused-judged : (m k : ℕ) → j ≡ Fault m k → {r : Outcome} {o′ l′ : List ℕ} → r ≡ Refused m k → o′ ≡ zeroed o
+    pub refused-judged : (m k : ℕ) → j ≡ Fault m k → {r : HandedBack} {o′ l′ : List ℕ} → r ≡ Refused m k → o′ ≡ zeroed o
         → l′ ≡ left (i .ledger) (i .used) → Right i r o′ l′
     refused-judged m k e = refuses i m k (late-answer ∙ ap (λ x. joined (shapeOutcome x) (endOutcome i)) e) o size
 
     -- 13, 14, or done
     module _ (past : ℕ) (fine : j ≡ Fine past) (fits : i .used ≤ slotsOf (i .ledger)) {l₁ o₁ : List ℕ} {walk : Walk}
-        (whole : Whole (i .settings .options) days (i .settings .root) (i .settings .study) (i .settings .site) (i .lent) (i .ledger) l₁ (i .used) o o₁ walk) where
-      end-answer : answer i ≡ endOutcome i
+        (whole : Whole (settingsOf m (i .settings .root) (i .settings .study) (i .settings .site)) (i .lent) (i .ledger) l₁ (i .used) o o₁ 0 walk) where
+      end-answer : outcomeOf i ≡ endOutcome i
       end-answer = late-answer ∙ ap (λ x. joined (shapeOutcome x) (endOutcome i)) fine
 
       abbrev read-so : Found i
       read-so = found i past (sym fine ∙ judgement)
 
-      ended : Ended i (read-so .tree) (read-so .past) o o₁ (i .ledger) l₁ walk
+      ended : Ended i (read-so .tree) (read-so .past) o o₁ (i .ledger) l₁ 0 walk
       ended =
-          whole .right i (record { options-is = refl; shift-is = same; root-is = refl; study-is = refl; site-is = refl }) refl refl refl (read-so .tree)
+          whole .right i (given-settings m (i .settings) has) refl refl refl (read-so .tree)
           (read-so .past) (read-so .reads) (read-so .sound)
 
       pub counted : Counted l₁ walk
       counted = step walk ended
         where
-          step : (w : Walk) → Ended i (read-so .tree) (read-so .past) o o₁ (i .ledger) l₁ w → Counted l₁ w
+          step : (w : Walk) → Ended i (read-so .tree) (read-so .past) o o₁ (i .ledger) l₁ 0 w → Counted l₁ w
           step Stop e = tt
           step (To p t) e = omega (arith, e .5, slots-same (i .ledger) l₁ (whole .ledger-size))
 
       again : left l₁ (i .used) ≡ left (i .ledger) (i .used)
       again = left-same (i .ledger) l₁ (i .used) (whole .ledger-size) (whole .slots-kept) fits
 
-      pub walk-right : (r : Outcome) (o₂ l₂ : List ℕ) → r ≡ finished o₁ walk → o₂ ≡ finishedOutput o₁ walk → l₂ ≡ finishedLedger o₁ l₁ (i .used) walk
+      pub walk-right : (r : HandedBack) (o₂ l₂ : List ℕ) → r ≡ finished o₁ walk → o₂ ≡ finishedOutput o₁ walk → l₂ ≡ finishedLedger o₁ l₁ (i .used) walk
           → Right i r o₂ l₂
       walk-right r o₂ l₂ = by-walk walk ended
         where
-          full : slotsOf (i .ledger) < length (slotsAfter i) → answer i ≡ refused 13 0
+          full : slotsOf (i .ledger) < length (slotsAfter i) → outcomeOf i ≡ refused 13 0
           full h = end-answer ∙ rw (lt-ltb (slotsOf (i .ledger)) (length (slotsAfter i)) h)
 
-          by-walk : (w : Walk) → Ended i (read-so .tree) (read-so .past) o o₁ (i .ledger) l₁ w → r ≡ finished o₁ w → o₂ ≡ finishedOutput o₁ w
+          by-walk : (w : Walk) → Ended i (read-so .tree) (read-so .past) o o₁ (i .ledger) l₁ 0 w → r ≡ finished o₁ w → o₂ ≡ finishedOutput o₁ w
               → l₂ ≡ finishedLedger o₁ l₁ (i .used) w → Right i r o₂ l₂
           by-walk Stop e a b c = refuses i 13 0 (full e) o₁ (whole .out-size ∙ size) a b (c ∙ again)
           by-walk (To p t) e a b c = by-room (ltb (length o₁) (t .pos)) refl a b c

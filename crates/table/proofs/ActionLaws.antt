@@ -7,26 +7,27 @@
 --     actionOf-ruled, actionOf-row, actionOf-found    a rule decides; else the row; and where there is a row, the row
 --     actionOf-basic                                  with no option chosen a row's basic action
 --     actionOf-rowless                                K where no rule and no row speaks
---     marks-removed, marks-kept                       the four marks are X at the top level and K in an item, under every option number
+--     reserved-removed, reserved-kept                 the four reserved tags are X at the top level and K in an item, under every option number
 --     actionOf-level                                  any other tag has the same action at every level
 --     actionOf-chosen                                 the action hangs on which options are chosen, and on no more of the option number
 --     actionOf-dates                                  without Modified Dates no action is its C
 use mathlib.Core.Path.{_≡_, refl, sym, ap, _∙_}
 use mathlib.Core.Bool.{Bool, true, false, false≢true}
-use mathlib.Core.List.{List, [], _∷_}
+use mathlib.Core.List.{[], _∷_}
 use Prim.Native.Nat.{ℕ, _<_}
 use lib.Dec.{T, eqb, eqb→eq, lit<}
 use borrow.Author.Tests.{ne-eqb}
 use Rattle.basis.specs.Choice.{pick, fork, every, among}
+use Rattle.basis.specs.Bytes.{hasBit}
 use Rattle.table.specs.Table.{noLetter, X, Z, U, K, C, D, basicOf, letterOf, noRow, rowOf, legal}
-use Rattle.table.specs.Rules.{marks, ruled}
-use Rattle.table.specs.Override.{optionCount, modifiedDates, chosen, given, over, overriding, cleansDates}
+use Rattle.table.specs.Rules.{reserved, ruled}
+use Rattle.table.specs.Override.{optionCount, modifiedDates, given, over, overriding, cleansDates}
 use Rattle.table.specs.Action.{letterFor, actionFor, onRow, actionOf}
 use Rattle.table.specs.declared.Action.{Action}
 use Rattle.table.specs.declared.Action.the-variants.{Remove, Keep, Empty, Dummy, Rename, Clean, CleanDates}
 use Rattle.table.proofs.Truth.{every-among, pick-left}
-use Rattle.table.proofs.RulesLaws.{ruled-mark, rowOf-unruled, marks-free}
-use Rattle.table.proofs.OverrideLaws.{chosen-zero, given-unchosen, overriding-same, overriding-none, overriding-clean, overriding-keep}
+use Rattle.table.proofs.RulesLaws.{ruled-reserved, rowOf-unruled, reserved-free}
+use Rattle.table.proofs.OverrideLaws.{hasBit-zero, given-unchosen, overriding-same, overriding-none, overriding-clean, overriding-keep}
 
 -- ---- letterFor, actionFor
 
@@ -78,11 +79,11 @@ unfolding onRow
 onRow-same o p r s e b g = rw (e, b, g modifiedDates (lit< tt), overriding-same o p r s optionCount g)
 
 pub onRow-unchosen : (options r s : ℕ) → eqb r noRow ≡ eqb s noRow → basicOf r ≡ basicOf s
-    → ((bit : ℕ) → bit < optionCount → chosen options bit ≡ true → letterOf r bit ≡ letterOf s bit) → onRow options r ≡ onRow options s
+    → ((bit : ℕ) → bit < optionCount → hasBit options bit ≡ true → letterOf r bit ≡ letterOf s bit) → onRow options r ≡ onRow options s
 onRow-unchosen options r s e b g =
-    onRow-same options options r s e b (λ bit l. pick-left (chosen options bit) (letterOf r bit) (letterOf s bit) noLetter (g bit l))
+    onRow-same options options r s e b (λ bit l. pick-left (hasBit options bit) (letterOf r bit) (letterOf s bit) noLetter (g bit l))
 
-onRow-plain : (options row : ℕ) → chosen options modifiedDates ≡ false → isCleanDates (onRow options row) ≡ false
+onRow-plain : (options row : ℕ) → hasBit options modifiedDates ≡ false → isCleanDates (onRow options row) ≡ false
 unfolding onRow
 onRow-plain options row e = pick-is isCleanDates (eqb row noRow) _ _ refl (rw e (actionFor-plain _))
 
@@ -135,29 +136,29 @@ module _ (options : ℕ) (top : Bool) (tag : ℕ) where
 
 pub actionOf-basic : (top : Bool) (tag : ℕ) → (rowOf tag ≡ noRow → ⊥) → actionOf 0 top tag ≡ actionFor (basicOf (rowOf tag))
 actionOf-basic top tag n =
-    actionOf-found 0 top tag n ∙ onRow-basic 0 (rowOf tag) n (λ bit _. given-unchosen 0 (rowOf tag) bit (chosen-zero bit))
+    actionOf-found 0 top tag n ∙ onRow-basic 0 (rowOf tag) n (λ bit _. given-unchosen 0 (rowOf tag) bit (hasBit-zero bit))
 
-pub marks-removed : (options tag : ℕ) → among tag marks ≡ true → actionOf options true tag ≡ Remove
-marks-removed options tag e = actionOf-ruled options true tag (ruled-mark tag e)
+pub reserved-removed : (options tag : ℕ) → among tag reserved ≡ true → actionOf options true tag ≡ Remove
+reserved-removed options tag e = actionOf-ruled options true tag (ruled-reserved tag e)
 
-pub marks-kept : (options tag : ℕ) → among tag marks ≡ true → actionOf options false tag ≡ Keep
-marks-kept options tag e = actionOf-rowless options false tag (marks-free tag e .0) (marks-free tag e .1)
+pub reserved-kept : (options tag : ℕ) → among tag reserved ≡ true → actionOf options false tag ≡ Keep
+reserved-kept options tag e = actionOf-rowless options false tag (reserved-free tag e .0) (reserved-free tag e .1)
 
 -- any other tag has the same action at every level
-pub actionOf-level : (options : ℕ) (top : Bool) (tag : ℕ) → among tag marks ≡ false → actionOf options top tag ≡ actionOf options false tag
+pub actionOf-level : (options : ℕ) (top : Bool) (tag : ℕ) → among tag reserved ≡ false → actionOf options top tag ≡ actionOf options false tag
 unfolding actionOf ruled
 actionOf-level options true tag e = rw e
 actionOf-level options false tag e = refl
 
 -- an option that is not chosen does not matter
-pub actionOf-chosen : (o p : ℕ) (top : Bool) (tag : ℕ) → ((bit : ℕ) → bit < optionCount → chosen o bit ≡ chosen p bit)
+pub actionOf-chosen : (o p : ℕ) (top : Bool) (tag : ℕ) → ((bit : ℕ) → bit < optionCount → hasBit o bit ≡ hasBit p bit)
     → actionOf o top tag ≡ actionOf p top tag
 unfolding actionOf
 actionOf-chosen o p top tag e =
     rw (onRow-same o p (rowOf tag) (rowOf tag) refl refl (λ bit l. ap (λ (b : Bool). pick b (letterOf (rowOf tag) bit) noLetter) (e bit l)))
 
 -- without Modified Dates no action is its C
-pub actionOf-dates : (options : ℕ) (top : Bool) (tag : ℕ) → chosen options modifiedDates ≡ false → actionOf options top tag ≡ CleanDates → ⊥
+pub actionOf-dates : (options : ℕ) (top : Bool) (tag : ℕ) → hasBit options modifiedDates ≡ false → actionOf options top tag ≡ CleanDates → ⊥
 unfolding actionOf
 actionOf-dates options top tag e f =
     let plain = fork-is isCleanDates (ruled top tag) (λ _. Remove) (λ _. onRow options (rowOf tag)) refl (onRow-plain options (rowOf tag) e) in

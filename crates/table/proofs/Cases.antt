@@ -67,7 +67,7 @@ cases =
     atTop none 0x6000_3000 Remove ∷ inItem none 0x60FE_4000 Remove ∷ atTop none 0x6002_0010 Keep ∷ atTop none 0x6100_3000 Keep ∷
     -- element 0000
     atTop none 0x0008_0000 Remove ∷ inItem none 0x6000_0000 Remove ∷
-    -- the marks, at the top level and in an item
+    -- the reserved tags, at the top level and in an item
     atTop none 0x0012_0062 Remove ∷ atTop full 0x0012_0063 Remove ∷ atTop widest 0x0012_0064 Remove ∷ atTop modified 0x0028_0303 Remove ∷
     inItem none 0x0012_0063 Keep ∷ inItem none 0x0012_0064 Keep ∷
     -- no row: SOP Class UID, Pixel Data

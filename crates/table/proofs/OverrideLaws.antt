@@ -1,5 +1,5 @@
 -- Laws of `specs/Override.antt`. What is said of an option is said once, over its bit. No contract cites this file. Assumes nothing.
---     chosen-zero                                  the option number 0 chooses none
+--     hasBit-zero                                  the option number 0 chooses none
 --     given-unchosen, given-legal                  an option that is not chosen gives none; one that is gives K, C or none
 --     over-none, over-some                         one for each branch of `over`
 --     place-next                                   dividing once more brings the next place lowest
@@ -20,26 +20,27 @@ use lib.Dec.{T, eqb, eqb→eq}
 use lib.ListN.{length}
 use borrow.Author.Tests.{eq-eqb, ne-eqb, eqb-true}
 use Rattle.basis.specs.Choice.{pick, every, among}
+use Rattle.basis.specs.Bytes.{hasBit}
 use Rattle.table.specs.Rows.{table}
 use Rattle.table.specs.Table.{noLetter, K, C, overrides, letterOf, columns, noRow, rowOf, legal}
-use Rattle.table.specs.Override.{optionCount, modifiedDates, chosen, given, over, stronger, overriding, cleansDates}
+use Rattle.table.specs.Override.{optionCount, modifiedDates, given, over, stronger, overriding, cleansDates}
 use Rattle.table.proofs.Truth.{every-at, every-among}
 use Rattle.table.proofs.TableLaws.{rowOf-every, columns-at, legal-letter}
 
--- ---- chosen
+-- ---- hasBit
 
 -- the option number 0 chooses none
-pub chosen-zero : (bit : ℕ) → chosen 0 bit ≡ false
-chosen-zero bit = rw (zero-div (2 ^ bit))
+pub hasBit-zero : (bit : ℕ) → hasBit 0 bit ≡ false
+hasBit-zero bit = rw (zero-div (2 ^ bit))
 
 -- ---- given
 
-pub given-unchosen : (options row bit : ℕ) → chosen options bit ≡ false → given options row bit ≡ noLetter
+pub given-unchosen : (options row bit : ℕ) → hasBit options bit ≡ false → given options row bit ≡ noLetter
 given-unchosen options row bit e = rw e
 
 pub given-legal : (options row bit : ℕ) → T (legal row) → bit < optionCount → T (among (given options row bit) overrides)
 unfolding among
-given-legal options row bit t h = go (chosen options bit)
+given-legal options row bit t h = go (hasBit options bit)
   where
     go : (b : Bool) → T (among (pick b (letterOf row bit) noLetter) overrides)
     go true = legal-letter row bit t (le-step h)

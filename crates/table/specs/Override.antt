@@ -2,7 +2,6 @@
 -- Laws: `proofs/OverrideLaws.antt`. Assumes nothing.
 --     optionCount                  how many options there are; their bits are those below
 --     modifiedDates                the bit of Modified Dates
---     chosen options bit           a test: the option number has that bit
 --     given options row bit        the letter that the option of that bit gives on a row: none where it is not chosen
 --     over letter next             next where that is a letter, else letter
 --     stronger letter next         the same, but a C stays
@@ -12,20 +11,18 @@ use mathlib.Core.Bool.{Bool}
 use Prim.Native.Nat.{ℕ, zero, suc, _/_, _%_, _^_}
 use lib.Dec.{eqb}
 use Rattle.basis.specs.Choice.{pick}
+use Rattle.basis.specs.Bytes.{hasBit}
 use Rattle.table.specs.Table.{noLetter, C, letterOf}
 
--- Document 01, Which action, 7th sentence: an option is chosen by its bit of the option number
+-- Document 01, Which action, 7th sentence: an option is chosen by its bit of the option number; these are the bits 0 to 5
 abbrev pub optionCount : ℕ
 optionCount = 6
 
 abbrev pub modifiedDates : ℕ
 modifiedDates = 1
 
-abbrev pub chosen : ℕ → ℕ → Bool
-chosen options bit = eqb (options / 2 ^ bit % 2) 1
-
 abbrev pub given : ℕ → ℕ → ℕ → ℕ
-given options row bit = pick (chosen options bit) (letterOf row bit) noLetter
+given options row bit = pick (hasBit options bit) (letterOf row bit) noLetter
 
 -- 8th sentence: a chosen option's letter overrides the basic action; where chosen options give both K and C, C wins (A6)
 abbrev pub over : ℕ → ℕ → ℕ

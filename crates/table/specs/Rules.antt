@@ -5,7 +5,9 @@
 --     private tag                    a test: an element of an odd group
 --     overlay tag                    a test: (60xx,3000) or (60xx,4000) of an even group
 --     zeroth tag                     a test: element 0000 of any group
---     marks                          the four tags that are taken off the top level
+--     patientIdentityRemovedTag, deidentificationMethodTag, deidentificationCodesTag, longitudinalTimeTag
+--                                    the four tags that are taken off the top level, by their names in PS3.6
+--     reserved                       these four
 --     ruled top tag                  a test: a rule speaks of the tag, at the top level or, where top is false, in an item
 use mathlib.Core.Bool.{Bool, _&&_, _||_}
 use mathlib.Core.List.{List, [], _∷_}
@@ -35,9 +37,23 @@ overlay tag = eqb (groupOf tag / 256) 0x60 && (eqb (groupOf tag % 2) 0 && among 
 abbrev pub zeroth : ℕ → Bool
 zeroth tag = eqb (elementOf tag) 0
 
+-- 4th sentence, and What each action writes, last paragraph: Patient Identity Removed, De-identification Method, De-identification Method
+-- Code Sequence, Longitudinal Temporal Information Modified
+abbrev pub patientIdentityRemovedTag : ℕ
+patientIdentityRemovedTag = 0x0012_0062
+
+abbrev pub deidentificationMethodTag : ℕ
+deidentificationMethodTag = 0x0012_0063
+
+abbrev pub deidentificationCodesTag : ℕ
+deidentificationCodesTag = 0x0012_0064
+
+abbrev pub longitudinalTimeTag : ℕ
+longitudinalTimeTag = 0x0028_0303
+
 -- 4th sentence: these are X at the top level only; (0012,0063) goes too, though none is written (A5)
-abbrev pub marks : List ℕ
-marks = 0x0012_0062 ∷ 0x0012_0063 ∷ 0x0012_0064 ∷ 0x0028_0303 ∷ []
+abbrev pub reserved : List ℕ
+reserved = patientIdentityRemovedTag ∷ deidentificationMethodTag ∷ deidentificationCodesTag ∷ longitudinalTimeTag ∷ []
 
 unfoldable pub ruled : Bool → ℕ → Bool
-ruled top tag = curve tag || (private tag || (overlay tag || (zeroth tag || (top && among tag marks))))
+ruled top tag = curve tag || (private tag || (overlay tag || (zeroth tag || (top && among tag reserved))))

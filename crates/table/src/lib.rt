@@ -4,7 +4,7 @@ ghost use mathlib.Core.Path.{_≡_};
 ghost use Rattle.basis.specs.Choice.{among};
 ghost use Rattle.table.specs.Rows.{table};
 ghost use Rattle.table.specs.Table.{rowOf};
-ghost use Rattle.table.specs.Rules.{curve, overlay, marks, ruled};
+ghost use Rattle.table.specs.Rules.{curve, overlay, reserved, ruled};
 ghost use Rattle.table.specs.Override.{optionCount, stronger, overriding, cleansDates};
 ghost use Rattle.table.specs.Action.{actionFor, onRow, actionOf};
 
@@ -53,14 +53,14 @@ const TAG: u64 = 0x1_0000_0000;
 // What a tag is divided by to bring its group to the lowest place. The rest is its element.
 const GROUP: u64 = 65536;
 
-// The four tags that are taken off the top level.
-const IDENTITY_REMOVED: u64 = 0x0012_0062;
+// The four tags that are taken off the top level, by their names in PS3.6; three of them are written there anew.
+pub const PATIENT_IDENTITY_REMOVED: u64 = 0x0012_0062;
 
-const METHOD: u64 = 0x0012_0063;
+pub const DEIDENTIFICATION_METHOD: u64 = 0x0012_0063;
 
-const METHOD_CODES: u64 = 0x0012_0064;
+pub const DEIDENTIFICATION_CODES: u64 = 0x0012_0064;
 
-const DATES_MODIFIED: u64 = 0x0028_0303;
+pub const LONGITUDINAL_TIME: u64 = 0x0028_0303;
 
 const OPTION_COUNT: u64 = 6;
 
@@ -118,19 +118,19 @@ fn is_overlay(tag: u64) -> bool
     false
 }
 
-fn is_mark(tag: u64) -> bool
-    ensures { λ r. ⌜ r ≡ among tag marks ⌝ }
+fn is_reserved(tag: u64) -> bool
+    ensures { λ r. ⌜ r ≡ among tag reserved ⌝ }
 {
-    if tag == IDENTITY_REMOVED {
+    if tag == PATIENT_IDENTITY_REMOVED {
         return true;
     }
-    if tag == METHOD {
+    if tag == DEIDENTIFICATION_METHOD {
         return true;
     }
-    if tag == METHOD_CODES {
+    if tag == DEIDENTIFICATION_CODES {
         return true;
     }
-    tag == DATES_MODIFIED
+    tag == LONGITUDINAL_TIME
 }
 
 // Whether one of the rules that come before the rows speaks of the tag.
@@ -150,7 +150,7 @@ fn is_ruled(top: bool, tag: u64) -> bool
         return true;
     }
     if top {
-        return is_mark(tag);
+        return is_reserved(tag);
     }
     false
 }

@@ -12,22 +12,22 @@ use native.Mathlib.Omega.{arith}
 use borrow.Author.Tests.{le-leb, lt-leb}
 use lib.Dec.{leb, leb·suc-suc}
 use lib.ListN.{length}
-use Rattle.basis.specs.Choice.{pick}
+use Rattle.basis.specs.Choice.{pick, every, isNone}
 use Rattle.basis.specs.Bytes.{part}
-use Rattle.basis.specs.Pieces.{pieces}
+use Rattle.basis.specs.Pieces.{pieces, firstPiece}
 use Rattle.basis.proofs.BytesLaws.{length-part, part-none}
 use Rattle.basis.proofs.PiecesLaws.{pieces-some}
-use Rattle.uid.specs.Uid.{all, formed, isUid, longestUid}
-use Rattle.uid.specs.Value.{mostUids, ifUids, trimmed, uidsOf, isNone, uidsFault}
-use Rattle.uid.specs.Scan.{firstPiece, uidSpan}
+use Rattle.basis.proofs.PieceEndLaws.{Cuts, whole, cut, cuts, PieceEnd, pieceEnd-is, pieces-last, pieces-more}
+use Rattle.uid.specs.Uid.{formed, isUid, longestUid}
+use Rattle.uid.specs.Value.{mostUids, ifUids, trimmed, uidsOf, uidsFault}
+use Rattle.uid.specs.Scan.{uidSpan}
 use Rattle.uid.proofs.UidLaws.{UidIs, uidUpto-is, uidUpto-from, uidUpto-formed}
-use Rattle.uid.proofs.ScanLaws.{Cuts, whole, cut, cuts, span-good, span-bad}
-use Rattle.uid.proofs.PieceTurns.{PieceEnd, pieceEnd-is}
+use Rattle.uid.proofs.ScanLaws.{span-good, span-bad}
 use Rattle.uid.proofs.PadLaws.{trimmed-part}
 use Rattle.uid.proofs.ValueLaws.{uidsOf-some, uidsOf-odd}
 
 abbrev pub fewUids : ℕ → List (List ℕ) → Bool
-fewUids n us = leb (length us) n && all isUid us
+fewUids n us = leb (length us) n && every isUid us
 
 -- ---- before the loop
 
@@ -49,11 +49,11 @@ spans v h = step (formed (firstPiece v)) refl
     step false e = absurd (omega (arith, span-bad v e))
 
 first-not : (v : List ℕ) → (isUid (firstPiece v) ≡ true → ⊥) → (n : ℕ) → fewUids n (pieces v) ≡ false
-unfolding all
+unfolding every
 first-not v not-uid n = step (isUid (firstPiece v)) refl (cuts v)
   where
     heads : (us : List (List ℕ)) → pieces v ≡ firstPiece v ∷ us → isUid (firstPiece v) ≡ false → fewUids n (pieces v) ≡ false
-    heads us e f = ap (fewUids n) e ∙ ap (λ b. leb (length (firstPiece v ∷ us)) n && (b && all isUid us)) f ∙ and-false (leb (length (firstPiece v ∷ us)) n)
+    heads us e f = ap (fewUids n) e ∙ ap (λ b. leb (length (firstPiece v ∷ us)) n && (b && every isUid us)) f ∙ and-false (leb (length (firstPiece v ∷ us)) n)
 
     step : (b : Bool) → isUid (firstPiece v) ≡ b → Cuts v → fewUids n (pieces v) ≡ false
     step true e c = absurd (not-uid e)
@@ -98,7 +98,7 @@ module _ {s : List ℕ} {from to stop a left : ℕ} (w : Judging s from to stop 
   -- as many as there may be, and more
   pub fault-over : left ≡ 0 → true ≡ uidsFault (part s from to)
   fault-over e =
-      broken (ap (λ b. b && all isUid (pieces (part s a stop))) (lt-leb (length (pieces (part s a stop))) left (omega (arith, pieces-some (part s a stop)))))
+      broken (ap (λ b. b && every isUid (pieces (part s a stop))) (lt-leb (length (pieces (part s a stop))) left (omega (arith, pieces-some (part s a stop)))))
 
   module _ {e : ℕ} (is : e ≡ a + uidSpan (part s a stop)) where
     -- where the first piece is a UID, the span is its length
@@ -124,21 +124,21 @@ module _ {s : List ℕ} {from to stop a left : ℕ} (w : Judging s from to stop 
           (ap formed (sym (ends .first)) ∙ shaped)
 
       pub fault-last : e ≡ stop → false ≡ uidsFault (part s from to)
-      unfolding all
+      unfolding every
       fault-last k =
-          sym (w .told ∙ ap not (ap (fewUids left) (ends .only k) ∙ ap₂ (λ b c. b && (c && true)) (le-leb 1 left (omega arith)) uid))
+          sym (w .told ∙ ap not (ap (fewUids left) (pieces-last ends k) ∙ ap₂ (λ b c. b && (c && true)) (le-leb 1 left (omega arith)) uid))
 
       module _ (before : (e ≡ stop → ⊥)) where
         pub fault-inside : e < stop
         fault-inside = omega (arith, ends .upto)
 
         pub fault-go : Judging s from to stop (e + 1) (left - 1)
-        unfolding all
+        unfolding every
         fault-go = record {
           hi = omega (arith, fault-inside);
           inside = w .inside;
           told =
               w .told
-              ∙ ap not (ap (fewUids left) (ends .more fault-inside)
-              ∙ ap₂ (λ b c. b && (c && all isUid (pieces (part s (e + 1) stop)))) (one-less (length (pieces (part s (e + 1) stop))) left (omega arith)) uid);
+              ∙ ap not (ap (fewUids left) (pieces-more ends fault-inside)
+              ∙ ap₂ (λ b c. b && (c && every isUid (pieces (part s (e + 1) stop)))) (one-less (length (pieces (part s (e + 1) stop))) left (omega arith)) uid);
         }

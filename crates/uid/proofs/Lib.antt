@@ -1,7 +1,6 @@
-pub mod PartLaws
 pub mod UidLaws
 pub mod ScanLaws
-pub mod PieceTurns
+pub mod ComponentTurns
 pub mod UidTurns
 pub mod PadLaws
 pub mod ValueLaws

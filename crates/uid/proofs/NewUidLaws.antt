@@ -21,20 +21,22 @@ use lib.Dec.{eqb}
 use lib.ListN.{length, length-append, length-map}
 use Rattle.basis.specs.Choice.{pick, every}
 use Rattle.basis.specs.Pieces.{backslash}
+use Rattle.basis.specs.Text.{isDigit, digit0}
 use Rattle.basis.proofs.PiecesLaws.{Free, FreeAll, free-append}
-use Rattle.uid.specs.Uid.{dot, nought, isDigit, component, all, isUid, isRoot, longestUid, longestRoot}
+use Rattle.basis.proofs.TextLaws.{isDigit-yes}
+use Rattle.uid.specs.Uid.{dot, component, isUid, isRoot, longestUid, longestRoot}
 use Rattle.uid.specs.Value.{mostUids, uidsOf}
 use Rattle.uid.specs.NewUid.{digitsIn, decimal, newUid, uidsText}
-use Rattle.uid.proofs.UidLaws.{isDigit-yes, every-free, component-digits, formed-one, formed-append, uidUpto-is, uidUpto-formed, uidUpto-from}
+use Rattle.uid.proofs.UidLaws.{every-free, component-digits, formed-one, formed-append, uidUpto-is, uidUpto-formed, uidUpto-from}
 use Rattle.uid.proofs.ValueLaws.{Short, Filled, uidsOf-joined, valueOf-inj, valueOf-length}
 
 -- ---- decimal
 
-digits-small : (k n : ℕ) → n < 10 → digitsIn (suc k) n ≡ (nought + n) ∷ []
+digits-small : (k n : ℕ) → n < 10 → digitsIn (suc k) n ≡ (digit0 + n) ∷ []
 unfolding digitsIn
 digits-small k n h = rw (lt-ltb n 10 h) refl
 
-digits-more : (k n : ℕ) → 10 ≤ n → digitsIn (suc k) n ≡ digitsIn k (n / 10) ++ (nought + n % 10) ∷ []
+digits-more : (k n : ℕ) → 10 ≤ n → digitsIn (suc k) n ≡ digitsIn k (n / 10) ++ (digit0 + n % 10) ∷ []
 unfolding digitsIn
 digits-more k n h = rw (le-ltb n 10 h) refl
 
@@ -47,20 +49,20 @@ digits-fuel (suc k) (suc j) n h i = step (decLt n 10) (digits-fuel k j (n / 10))
     step : Dec (n < 10) → (n / 10 < k → n / 10 < j → digitsIn k (n / 10) ≡ digitsIn j (n / 10)) → digitsIn (suc k) n ≡ digitsIn (suc j) n
     step (yes p) ih = digits-small k n p ∙ sym (digits-small j n p)
     step (no q) ih =
-        digits-more k n (omega arith) ∙ ap (λ l. l ++ (nought + n % 10) ∷ []) (ih (omega arith) (omega arith)) ∙ sym (digits-more j n (omega arith))
+        digits-more k n (omega arith) ∙ ap (λ l. l ++ (digit0 + n % 10) ∷ []) (ih (omega arith) (omega arith)) ∙ sym (digits-more j n (omega arith))
 
-pub decimal-small : (n : ℕ) → n < 10 → decimal n ≡ (nought + n) ∷ []
+pub decimal-small : (n : ℕ) → n < 10 → decimal n ≡ (digit0 + n) ∷ []
 unfolding decimal
 decimal-small n h = digits-small n n h
 
-pub decimal-more : (n : ℕ) → 10 ≤ n → decimal n ≡ decimal (n / 10) ++ (nought + n % 10) ∷ []
+pub decimal-more : (n : ℕ) → 10 ≤ n → decimal n ≡ decimal (n / 10) ++ (digit0 + n % 10) ∷ []
 unfolding decimal
 decimal-more n h =
-    digits-more n n h ∙ ap (λ l. l ++ (nought + n % 10) ∷ []) (digits-fuel n (suc (n / 10)) (n / 10) (omega arith) (omega arith))
+    digits-more n n h ∙ ap (λ l. l ++ (digit0 + n % 10) ∷ []) (digits-fuel n (suc (n / 10)) (n / 10) (omega arith) (omega arith))
 
 -- what holds of the digits of numbers, of each by what holds of its tenth
-decimal-each : (P : ℕ → List ℕ → Type 0) → ((n : ℕ) → n < 10 → P n ((nought + n) ∷ []))
-    → ((n : ℕ) → 10 ≤ n → P (n / 10) (decimal (n / 10)) → P n (decimal (n / 10) ++ (nought + n % 10) ∷ []))
+decimal-each : (P : ℕ → List ℕ → Type 0) → ((n : ℕ) → n < 10 → P n ((digit0 + n) ∷ []))
+    → ((n : ℕ) → 10 ≤ n → P (n / 10) (decimal (n / 10)) → P n (decimal (n / 10) ++ (digit0 + n % 10) ∷ []))
     → (k n : ℕ) → n < k → P n (decimal n)
 decimal-each P small more zero n h = absurd (omega arith)
 decimal-each P small more (suc k) n h = step (decLt n 10) (decimal-each P small more k (n / 10))
@@ -72,18 +74,18 @@ decimal-each P small more (suc k) n h = step (decLt n 10) (decimal-each P small 
 -- the number that digits spell, after those that spelt a
 readFrom : ℕ → List ℕ → ℕ
 readFrom a [] = a
-readFrom a (c ∷ cs) = readFrom (a * 10 + (c - nought)) cs
+readFrom a (c ∷ cs) = readFrom (a * 10 + (c - digit0)) cs
 
-read-last : (a : ℕ) (cs : List ℕ) (c : ℕ) → readFrom a (cs ++ c ∷ []) ≡ readFrom a cs * 10 + (c - nought)
+read-last : (a : ℕ) (cs : List ℕ) (c : ℕ) → readFrom a (cs ++ c ∷ []) ≡ readFrom a cs * 10 + (c - digit0)
 unfolding readFrom
 read-last a [] c = refl
-read-last a (d ∷ cs) c = read-last (a * 10 + (d - nought)) cs c
+read-last a (d ∷ cs) c = read-last (a * 10 + (d - digit0)) cs c
 
 read-decimal : (n : ℕ) → readFrom 0 (decimal n) ≡ n
 unfolding readFrom
 read-decimal n =
     decimal-each (λ m cs. readFrom 0 cs ≡ m) (λ m h. omega arith)
-    (λ m h ih. read-last 0 (decimal (m / 10)) (nought + m % 10) ∙ omega arith) (suc n) n (omega arith)
+    (λ m h ih. read-last 0 (decimal (m / 10)) (digit0 + m % 10) ∙ omega arith) (suc n) n (omega arith)
 
 pub decimal-inj : (m n : ℕ) → decimal m ≡ decimal n → m ≡ n
 decimal-inj m n e = sym (read-decimal m) ∙ ap (readFrom 0) e ∙ read-decimal n
@@ -92,7 +94,7 @@ pub length-decimal-small : (n : ℕ) → n < 10 → length (decimal n) ≡ 1
 length-decimal-small n h = ap length (decimal-small n h)
 
 pub length-decimal-more : (n : ℕ) → 10 ≤ n → length (decimal n) ≡ length (decimal (n / 10)) + 1
-length-decimal-more n h = ap length (decimal-more n h) ∙ length-append (decimal (n / 10)) ((nought + n % 10) ∷ [])
+length-decimal-more n h = ap length (decimal-more n h) ∙ length-append (decimal (n / 10)) ((digit0 + n % 10) ∷ [])
 
 pub decimal-short : (j n : ℕ) → n < 10 ^ suc j → length (decimal n) ≤ suc j
 decimal-short zero n h = omega (arith, length-decimal-small n (omega arith))
@@ -105,11 +107,11 @@ decimal-short (suc j) n h = step (decLt n 10) (decimal-short j (n / 10))
 -- digits, the first no zero unless the number is
 Proper : ℕ → List ℕ → Type 0
 Proper n [] = ⊥
-Proper n (x ∷ p) = (every isDigit (x ∷ p) ≡ true) × (0 < n → x ≢ nought) × (n < 10 → length p ≡ 0)
+Proper n (x ∷ p) = (every isDigit (x ∷ p) ≡ true) × (0 < n → x ≢ digit0) × (n < 10 → length p ≡ 0)
 
-proper-small : (n : ℕ) → n < 10 → Proper n ((nought + n) ∷ [])
+proper-small : (n : ℕ) → n < 10 → Proper n ((digit0 + n) ∷ [])
 unfolding Proper every
-proper-small n h = (and-eq-true-iff (isDigit (nought + n)) true .1 (isDigit-yes (nought + n) (omega arith) (omega arith), refl), (λ k e. omega arith), λ k. refl)
+proper-small n h = (and-eq-true-iff (isDigit (digit0 + n)) true .1 (isDigit-yes (digit0 + n) (omega arith) (omega arith), refl), (λ k e. omega arith), λ k. refl)
 
 every-snoc : (p : List ℕ) (x : ℕ) → every isDigit p ≡ true → isDigit x ≡ true → every isDigit (p ++ x ∷ []) ≡ true
 unfolding every
@@ -118,20 +120,20 @@ every-snoc (y ∷ p) x e f =
     let b = and-eq-true-iff (isDigit y) (every isDigit p) .0 e in
     and-eq-true-iff (isDigit y) (every isDigit (p ++ x ∷ [])) .1 (b .0, every-snoc p x (b .1) f)
 
-proper-more : (n : ℕ) → 10 ≤ n → (l : List ℕ) → Proper (n / 10) l → Proper n (l ++ (nought + n % 10) ∷ [])
+proper-more : (n : ℕ) → 10 ≤ n → (l : List ℕ) → Proper (n / 10) l → Proper n (l ++ (digit0 + n % 10) ∷ [])
 unfolding Proper
 proper-more n h [] q = absurd q
 proper-more n h (x ∷ p) q =
-    (every-snoc (x ∷ p) (nought + n % 10) (q .0) (isDigit-yes (nought + n % 10) (omega arith) (omega arith)), (λ k. q .1 (omega arith)), λ k. absurd (omega arith))
+    (every-snoc (x ∷ p) (digit0 + n % 10) (q .0) (isDigit-yes (digit0 + n % 10) (omega arith) (omega arith)), (λ k. q .1 (omega arith)), λ k. absurd (omega arith))
 
 proper-component : (n : ℕ) (l : List ℕ) → Proper n l → component l ≡ true
 unfolding Proper component
 proper-component n [] q = absurd q
-proper-component n (x ∷ p) q = step (eqb x nought) refl (decLt n 10)
+proper-component n (x ∷ p) q = step (eqb x digit0) refl (decLt n 10)
   where
-    step : (b : Bool) → eqb x nought ≡ b → Dec (n < 10) → pick b (eqb (length p) 0) (every isDigit (x ∷ p)) ≡ true
+    step : (b : Bool) → eqb x digit0 ≡ b → Dec (n < 10) → pick b (eqb (length p) 0) (every isDigit (x ∷ p)) ≡ true
     step true e (yes h) = rw (q .2 h) refl
-    step true e (no h) = absurd (q .1 (omega arith) (eqb-true x nought e))
+    step true e (no h) = absurd (q .1 (omega arith) (eqb-true x digit0 e))
     step false e d = q .0
 
 pub decimal-component : (n : ℕ) → component (decimal n) ≡ true
@@ -201,11 +203,11 @@ module _ (root : List ℕ) (d : ℕ) (room : length root + 1 + suc d ≤ longest
 
 -- a good root, and numbers for which every root leaves room
 module _ (root : List ℕ) (good : isRoot root ≡ true) where
-  news-uids : (ns : List ℕ) → ((n : ℕ) → List·Memᴰ n ns → n < 10 ^ digitsLeft) → all isUid (map (newUid root) ns) ≡ true
-  unfolding all
+  news-uids : (ns : List ℕ) → ((n : ℕ) → List·Memᴰ n ns → n < 10 ^ digitsLeft) → every isUid (map (newUid root) ns) ≡ true
+  unfolding every
   news-uids [] h = refl
   news-uids (n ∷ ns) h =
-      and-eq-true-iff (isUid (newUid root n)) (all isUid (map (newUid root) ns)) .1
+      and-eq-true-iff (isUid (newUid root n)) (every isUid (map (newUid root) ns)) .1
       (newUid-isUid root n good (h n (List·Memᴰ·head refl)), news-uids ns (λ m k. h m (List·Memᴰ·tail k)))
 
   pub uidsOf-uidsText : (ns : List ℕ) → ((n : ℕ) → List·Memᴰ n ns → n < 10 ^ digitsLeft) → length ns ≤ mostUids

@@ -2,8 +2,8 @@
 --     trimmed-snoc, trimmed-free                  the last byte decides; no zero byte, nothing is taken off
 --     trimmed-part                                what the place shows that `trimmed_end` hands back
 --     trimmed-none, trimmed-zero, trimmed-same    the ways out of `trimmed_end`
---     padOf-even, padOf-odd, length-padded        a padded text is even
---     trimmed-padOf, padOf-trimmed                the zero byte of an even value is the one that the rule asks for
+--     zeroPad-even, zeroPad-odd, length-padded        a padded text is even
+--     trimmed-zeroPad, zeroPad-trimmed                the zero byte of an even value is the one that the rule asks for
 use mathlib.Core.Path.{_≡_, refl, sym, ap, _∙_}
 use mathlib.Core.Bool.{Bool, true, false}
 use mathlib.Core.Logic.{_⊎_, inl, inr}
@@ -16,10 +16,9 @@ use lib.ListN.{length, take, getD, length-append}
 use lib.Seq.{take-append-seam, take-length}
 use Rattle.basis.specs.Choice.{pick}
 use Rattle.basis.specs.Bytes.{part}
-use Rattle.basis.proofs.BytesLaws.{length-part, part-none}
+use Rattle.basis.proofs.BytesLaws.{length-part, part-none, part-more, part-front}
 use Rattle.basis.proofs.PiecesLaws.{Free}
-use Rattle.uid.specs.Value.{trimmed, padOf}
-use Rattle.uid.proofs.PartLaws.{part-more, part-front}
+use Rattle.uid.specs.Value.{trimmed, zeroPad}
 
 -- ---- trimmed
 
@@ -98,42 +97,42 @@ module _ (s : List ℕ) (from to : ℕ) (le : from ≤ to) (in-s : to ≤ length
         ∙ ap (λ b. pick b (part s from (to - 1)) (part s from (to - 1) ++ getD s (to - 1) 0 ∷ [])) (ne-eqb (getD s (to - 1) 0) 0 n) ∙ sym snoc in
         omega (arith, ap length t, length-part s from to in-s)
 
--- ---- padOf
+-- ---- zeroPad
 
-pub padOf-even : (t : List ℕ) → length t % 2 ≡ 0 → padOf t ≡ []
-unfolding padOf
-padOf-even t e = rw (eq-eqb (length t % 2) 0 e) refl
+pub zeroPad-even : (t : List ℕ) → length t % 2 ≡ 0 → zeroPad t ≡ []
+unfolding zeroPad
+zeroPad-even t e = rw (eq-eqb (length t % 2) 0 e) refl
 
-pub padOf-odd : (t : List ℕ) → (length t % 2 ≡ 0 → ⊥) → padOf t ≡ 0 ∷ []
-unfolding padOf
-padOf-odd t n = rw (ne-eqb (length t % 2) 0 n) refl
+pub zeroPad-odd : (t : List ℕ) → (length t % 2 ≡ 0 → ⊥) → zeroPad t ≡ 0 ∷ []
+unfolding zeroPad
+zeroPad-odd t n = rw (ne-eqb (length t % 2) 0 n) refl
 
 -- even, and not much longer
-pub length-padded : (t : List ℕ) → (length (t ++ padOf t) % 2 ≡ 0) × (length (t ++ padOf t) ≤ length t + 1)
+pub length-padded : (t : List ℕ) → (length (t ++ zeroPad t) % 2 ≡ 0) × (length (t ++ zeroPad t) ≤ length t + 1)
 length-padded t = step (eqb (length t % 2) 0) refl
   where
-    step : (b : Bool) → eqb (length t % 2) 0 ≡ b → (length (t ++ padOf t) % 2 ≡ 0) × (length (t ++ padOf t) ≤ length t + 1)
+    step : (b : Bool) → eqb (length t % 2) 0 ≡ b → (length (t ++ zeroPad t) % 2 ≡ 0) × (length (t ++ zeroPad t) ≤ length t + 1)
     step true e =
         let h : length t % 2 ≡ 0 = eqb-true (length t % 2) 0 e in
-        let k : t ++ padOf t ≡ t = ap (λ z. t ++ z) (padOf-even t h) ∙ append-nil t in
+        let k : t ++ zeroPad t ≡ t = ap (λ z. t ++ z) (zeroPad-even t h) ∙ append-nil t in
         omega (arith, ap length k)
     step false e =
         let n : (length t % 2 ≡ 0 → ⊥) = eqb-false (length t % 2) 0 e in
-        let k : length (t ++ padOf t) ≡ length t + 1 = ap (λ z. length (t ++ z)) (padOf-odd t n) ∙ length-append t (0 ∷ []) in
+        let k : length (t ++ zeroPad t) ≡ length t + 1 = ap (λ z. length (t ++ z)) (zeroPad-odd t n) ∙ length-append t (0 ∷ []) in
         omega arith
 
-pub trimmed-padOf : (t : List ℕ) → Free 0 t → trimmed (t ++ padOf t) ≡ t
-trimmed-padOf t f = step (eqb (length t % 2) 0) refl
+pub trimmed-zeroPad : (t : List ℕ) → Free 0 t → trimmed (t ++ zeroPad t) ≡ t
+trimmed-zeroPad t f = step (eqb (length t % 2) 0) refl
   where
-    step : (b : Bool) → eqb (length t % 2) 0 ≡ b → trimmed (t ++ padOf t) ≡ t
-    step true e = ap (λ z. trimmed (t ++ z)) (padOf-even t (eqb-true (length t % 2) 0 e)) ∙ ap trimmed (append-nil t) ∙ trimmed-free t f
-    step false e = ap (λ z. trimmed (t ++ z)) (padOf-odd t (eqb-false (length t % 2) 0 e)) ∙ trimmed-snoc t 0
+    step : (b : Bool) → eqb (length t % 2) 0 ≡ b → trimmed (t ++ zeroPad t) ≡ t
+    step true e = ap (λ z. trimmed (t ++ z)) (zeroPad-even t (eqb-true (length t % 2) 0 e)) ∙ ap trimmed (append-nil t) ∙ trimmed-free t f
+    step false e = ap (λ z. trimmed (t ++ z)) (zeroPad-odd t (eqb-false (length t % 2) 0 e)) ∙ trimmed-snoc t 0
 
-pub padOf-trimmed : (v : List ℕ) → length v % 2 ≡ 0 → v ≡ trimmed v ++ padOf (trimmed v)
-padOf-trimmed v h = step (trimmed-off v)
+pub zeroPad-trimmed : (v : List ℕ) → length v % 2 ≡ 0 → v ≡ trimmed v ++ zeroPad (trimmed v)
+zeroPad-trimmed v h = step (trimmed-off v)
   where
-    step : (trimmed v ≡ v) ⊎ (v ≡ trimmed v ++ 0 ∷ []) → v ≡ trimmed v ++ padOf (trimmed v)
-    step (inl e) = sym (ap (λ z. trimmed v ++ z) (padOf-even (trimmed v) (ap (λ u. length u % 2) e ∙ h)) ∙ append-nil (trimmed v) ∙ e)
+    step : (trimmed v ≡ v) ⊎ (v ≡ trimmed v ++ 0 ∷ []) → v ≡ trimmed v ++ zeroPad (trimmed v)
+    step (inl e) = sym (ap (λ z. trimmed v ++ z) (zeroPad-even (trimmed v) (ap (λ u. length u % 2) e ∙ h)) ∙ append-nil (trimmed v) ∙ e)
     step (inr e) =
         let m : length v ≡ length (trimmed v) + 1 = ap length e ∙ length-append (trimmed v) (0 ∷ []) in
-        e ∙ ap (λ z. trimmed v ++ z) (sym (padOf-odd (trimmed v) (λ k. omega arith)))
+        e ∙ ap (λ z. trimmed v ++ z) (sym (zeroPad-odd (trimmed v) (λ k. omega arith)))

@@ -1,11 +1,9 @@
 -- Laws of `specs/Scan.antt`, on lists. No contract cites this file. Assumes nothing.
---     firstPiece-cons, firstPiece-none, firstPiece-stop, firstPiece-append     the first piece, byte by byte
---     Cuts, cuts                               a text is one piece, or a piece, a backslash and the rest
 --     digits-le, digits-take, digits-next      digits are digits, and what follows is none
 --     lead-le, lead-component, lead-stops      what leads is a component, and nothing longer is
 --     formed-not, formed-spoilt, lead-none     a text that begins otherwise is not formed as a UID is
 --     span-good, span-bad                      the span of a first piece that is formed so, and of another
-use mathlib.Core.Path.{_≡_, refl, sym, ap, _∙_, subst}
+use mathlib.Core.Path.{_≡_, refl, sym, ap, _∙_}
 use mathlib.Core.Bool.{Bool, true, false, _&&_, false≢true, and-eq-true-iff}
 use mathlib.Core.Logic.{_≢_}
 use mathlib.Core.List.{List, [], _∷_, _++_}
@@ -15,56 +13,13 @@ use borrow.Author.Tests.{eqb-true, eqb-false, ne-eqb}
 use lib.Dec.{eqb}
 use lib.ListN.{length, take, getD}
 use Rattle.basis.specs.Choice.{pick, fork, every}
-use Rattle.basis.specs.Pieces.{backslash, onFirst, pieces}
-use Rattle.basis.proofs.PiecesLaws.{Free, pieces-some}
-use Rattle.uid.specs.Uid.{dot, nought, isDigit, component, components, all, formed}
-use Rattle.uid.specs.Scan.{firstPiece, uidSpan, digits, lead}
+use Rattle.basis.specs.Pieces.{backslash, onFirst, pieces, firstPiece}
+use Rattle.basis.specs.Text.{isDigit, digit0}
+use Rattle.basis.proofs.PieceEndLaws.{firstPiece-cons, firstPiece-append}
+use Rattle.basis.proofs.PiecesLaws.{Free}
+use Rattle.uid.specs.Uid.{dot, component, components, formed}
+use Rattle.uid.specs.Scan.{uidSpan, digits, lead}
 use Rattle.uid.proofs.UidLaws.{every-free, component-digits, components-some}
-
--- ---- firstPiece
-
-pub firstPiece-cons : (x : ℕ) (v : List ℕ) → x ≢ backslash → firstPiece (x ∷ v) ≡ x ∷ firstPiece v
-unfolding pieces
-firstPiece-cons x v n = rw (ne-eqb x backslash n) (step (pieces v) (pieces-some v))
-  where
-    step : (us : List (List ℕ)) → 0 < length us → getD (onFirst x us) 0 [] ≡ x ∷ getD us 0 []
-    step [] h = absurd (omega arith)
-    step (u ∷ us) h = refl
-
-pub firstPiece-none : firstPiece [] ≡ []
-unfolding pieces
-firstPiece-none = refl
-
-pub firstPiece-stop : (v : List ℕ) → firstPiece (backslash ∷ v) ≡ []
-unfolding pieces
-firstPiece-stop v = refl
-
-pub firstPiece-append : (p r : List ℕ) → Free backslash p → firstPiece (p ++ r) ≡ p ++ firstPiece r
-firstPiece-append [] r f = refl
-firstPiece-append (x ∷ p) r f = firstPiece-cons x (p ++ r) (f .0) ∙ ap (λ u. x ∷ u) (firstPiece-append p r (f .1))
-
--- a text is one piece, or a piece, a backslash and the rest
-pub data Cuts (v : List ℕ) : Type 0 where
-  whole : Free backslash v → firstPiece v ≡ v → pieces v ≡ v ∷ [] → Cuts v
-  cut : (r : List ℕ) → v ≡ firstPiece v ++ backslash ∷ r → Free backslash (firstPiece v) → pieces v ≡ firstPiece v ∷ pieces r → Cuts v
-
-pub cuts : (v : List ℕ) → Cuts v
-unfolding pieces
-cuts [] = whole tt refl refl
-cuts (x ∷ v) = step (eqb x backslash) refl (cuts v)
-  where
-    step : (b : Bool) → eqb x backslash ≡ b → Cuts v → Cuts (x ∷ v)
-    step true e c =
-        let f : x ≡ backslash = eqb-true x backslash e in
-        rw f (cut v refl tt refl)
-    step false e (whole f g h) =
-        let n : x ≢ backslash = eqb-false x backslash e in
-        let p : firstPiece (x ∷ v) ≡ x ∷ firstPiece v = firstPiece-cons x v n in
-        whole (n, f) (p ∙ ap (λ u. x ∷ u) g) (rw e (ap (onFirst x) h))
-    step false e (cut r is f h) =
-        let n : x ≢ backslash = eqb-false x backslash e in
-        let p : firstPiece (x ∷ v) ≡ x ∷ firstPiece v = firstPiece-cons x v n in
-        cut r (ap (λ u. x ∷ u) is ∙ ap (λ u. u ++ backslash ∷ r) (sym p)) (subst (Free backslash) (sym p) (n, f)) (rw e (ap (onFirst x) h) ∙ ap (λ u. u ∷ pieces r) (sym p))
 
 -- ---- digits
 
@@ -114,8 +69,8 @@ length-snoc (y ∷ p) x c = ne-eqb (suc (length (p ++ x ∷ c))) 0 (omega arith)
 
 component-not : (p : List ℕ) (x : ℕ) (c : List ℕ) → isDigit x ≡ false → component (p ++ x ∷ c) ≡ false
 unfolding component every
-component-not [] x c e = let n : x ≢ nought = λ is. false≢true (sym e ∙ ap isDigit is) in rw (ne-eqb x nought n, e) refl
-component-not (y ∷ p) x c e = step (eqb y nought) (every-not (y ∷ p) x c e)
+component-not [] x c e = let n : x ≢ digit0 = λ is. false≢true (sym e ∙ ap isDigit is) in rw (ne-eqb x digit0 n, e) refl
+component-not (y ∷ p) x c e = step (eqb y digit0) (every-not (y ∷ p) x c e)
   where
     step : (b : Bool) → every isDigit (y ∷ (p ++ x ∷ c)) ≡ false → pick b (eqb (length (p ++ x ∷ c)) 0) (every isDigit (y ∷ (p ++ x ∷ c))) ≡ false
     step true ih = length-snoc p x c
@@ -124,7 +79,7 @@ component-not (y ∷ p) x c e = step (eqb y nought) (every-not (y ∷ p) x c e)
 pub lead-le : (v : List ℕ) → lead v ≤ length v
 unfolding lead
 lead-le [] = omega arith
-lead-le (x ∷ v) = step (eqb x nought) (digits-le (x ∷ v))
+lead-le (x ∷ v) = step (eqb x digit0) (digits-le (x ∷ v))
   where
     step : (b : Bool) → digits (x ∷ v) ≤ suc (length v) → pick b 1 (digits (x ∷ v)) ≤ suc (length v)
     step true h = omega arith
@@ -133,23 +88,23 @@ lead-le (x ∷ v) = step (eqb x nought) (digits-le (x ∷ v))
 pub lead-component : (v : List ℕ) → 0 < lead v → component (take (lead v) v) ≡ true
 unfolding lead component
 lead-component [] h = absurd (omega arith)
-lead-component (x ∷ v) h = step (eqb x nought) refl h
+lead-component (x ∷ v) h = step (eqb x digit0) refl h
   where
     -- not empty, and no zero in front
-    more : (n : ℕ) → eqb x nought ≡ false → 0 < n → every isDigit (take n (x ∷ v)) ≡ true → component (take n (x ∷ v)) ≡ true
+    more : (n : ℕ) → eqb x digit0 ≡ false → 0 < n → every isDigit (take n (x ∷ v)) ≡ true → component (take n (x ∷ v)) ≡ true
     more zero e k f = absurd (omega arith)
     more (suc n) e k f = rw e f
 
-    step : (b : Bool) → eqb x nought ≡ b → 0 < pick b 1 (digits (x ∷ v)) → component (take (pick b 1 (digits (x ∷ v))) (x ∷ v)) ≡ true
+    step : (b : Bool) → eqb x digit0 ≡ b → 0 < pick b 1 (digits (x ∷ v)) → component (take (pick b 1 (digits (x ∷ v))) (x ∷ v)) ≡ true
     step true e k = rw e refl
     step false e k = more (digits (x ∷ v)) e k (digits-take (x ∷ v))
 
 pub lead-stops : (v : List ℕ) → 0 < lead v → lead v < length v → (c : List ℕ) → component (take (lead v) v ++ getD v (lead v) 0 ∷ c) ≡ false
 unfolding lead component
 lead-stops [] h k c = absurd (omega arith)
-lead-stops (x ∷ v) h k c = step (eqb x nought) refl k
+lead-stops (x ∷ v) h k c = step (eqb x digit0) refl k
   where
-    step : (b : Bool) → eqb x nought ≡ b → pick b 1 (digits (x ∷ v)) < suc (length v)
+    step : (b : Bool) → eqb x digit0 ≡ b → pick b 1 (digits (x ∷ v)) < suc (length v)
         → component (take (pick b 1 (digits (x ∷ v))) (x ∷ v) ++ getD (x ∷ v) (pick b 1 (digits (x ∷ v))) 0 ∷ c) ≡ false
     step true e k = rw e (length-snoc [] (getD v 0 0) c)
     step false e k = component-not (take (digits (x ∷ v)) (x ∷ v)) (getD (x ∷ v) (digits (x ∷ v)) 0) c (digits-next (x ∷ v) k)
@@ -163,12 +118,12 @@ components-front [] q c cs f e = e
 components-front (x ∷ p) q c cs f e = rw (ne-eqb x dot (f .0)) (ap (onFirst x) (components-front p q c cs (f .1) e))
 
 pub formed-not : (p q : List ℕ) → Free dot p → ((c : List ℕ) → component (p ++ c) ≡ false) → formed (p ++ q) ≡ false
-unfolding formed all
+unfolding formed every
 formed-not p q f n = step (components q) refl (components-some q)
   where
-    step : (ps : List (List ℕ)) → components q ≡ ps → 0 < length ps → all component (components (p ++ q)) ≡ false
+    step : (ps : List (List ℕ)) → components q ≡ ps → 0 < length ps → every component (components (p ++ q)) ≡ false
     step [] e h = absurd (omega arith)
-    step (c ∷ cs) e h = ap (all component) (components-front p q c cs f e) ∙ ap (λ b. b && all component cs) (n c)
+    step (c ∷ cs) e h = ap (every component) (components-front p q c cs f e) ∙ ap (λ b. b && every component cs) (n c)
 
 snoc-append : (p : List ℕ) (x : ℕ) (c : List ℕ) → (p ++ x ∷ []) ++ c ≡ p ++ x ∷ c
 snoc-append [] x c = refl
@@ -187,11 +142,11 @@ formed-spoilt p r x e n d b =
     ∙ formed-not (p ++ x ∷ []) (firstPiece r) (free-snoc dot p x (every-free dot refl p s) d) (λ c. ap component (snoc-append p x c) ∙ n c)
 
 pub lead-none : (v : List ℕ) → lead v ≡ 0 → formed (firstPiece v) ≡ false
-unfolding lead digits pieces formed components all component every
+unfolding lead digits pieces formed components every component
 lead-none [] h = refl
-lead-none (x ∷ v) h = step (eqb x nought) refl (isDigit x) refl (eqb x backslash) refl (eqb x dot) refl h
+lead-none (x ∷ v) h = step (eqb x digit0) refl (isDigit x) refl (eqb x backslash) refl (eqb x dot) refl h
   where
-    step : (b : Bool) → eqb x nought ≡ b → (d : Bool) → isDigit x ≡ d → (s : Bool) → eqb x backslash ≡ s → (t : Bool) → eqb x dot ≡ t
+    step : (b : Bool) → eqb x digit0 ≡ b → (d : Bool) → isDigit x ≡ d → (s : Bool) → eqb x backslash ≡ s → (t : Bool) → eqb x dot ≡ t
         → pick b 1 (fork d (λ _. suc (digits v)) (λ _. 0)) ≡ 0 → formed (firstPiece (x ∷ v)) ≡ false
     step true e d f s g t i h = absurd (omega arith)
     step false e true f s g t i h = absurd (omega arith)

@@ -1,11 +1,9 @@
 -- Laws of `specs/Uid.antt`. No contract cites this file. Assumes nothing.
---     isDigit-range, isDigit-yes, isDigit-low, isDigit-high     a digit is 30 to 39 hex
 --     every-free                          what is no digit does not stand among digits
 --     component-digits                    a component is digits
 --     components-some                     there is a component, also of nothing
 --     components-append                   the components of two texts with a dot between them
 --     components-one, components-dot      what has no dot is one component; and so is what stands before the first dot
---     all-append                          the same of two lists
 --     formed-one, formed-dot, formed-append     a component; one, a dot and more; two such texts with a dot between them
 --     formed-free                         what is neither a digit nor a dot does not stand in such a text
 --     UidIs, uidUpto-is                   a UID has 1 character or more, no zero byte and no backslash
@@ -22,22 +20,12 @@ use lib.Dec.{eqb, leb}
 use lib.ListN.{length}
 use Rattle.basis.specs.Choice.{pick, fork, every}
 use Rattle.basis.specs.Pieces.{backslash, onFirst}
+use Rattle.basis.specs.Text.{isDigit, digit0}
+use Rattle.basis.proofs.ChoiceLaws.{every-append}
 use Rattle.basis.proofs.PiecesLaws.{Free}
-use Rattle.uid.specs.Uid.{dot, nought, nine, isDigit, component, components, all, formed, uidUpto, isUid, isRoot, longestUid, longestRoot}
+use Rattle.uid.specs.Uid.{dot, component, components, formed, uidUpto, isUid, isRoot, longestUid, longestRoot}
 
--- ---- isDigit
-
-pub isDigit-range : (x : ℕ) → isDigit x ≡ true → (nought ≤ x) × (x ≤ nine)
-isDigit-range x e = let b = and-eq-true-iff (leb nought x) (leb x nine) .0 e in (leb-true nought x (b .0), leb-true x nine (b .1))
-
-pub isDigit-yes : (x : ℕ) → nought ≤ x → x ≤ nine → isDigit x ≡ true
-isDigit-yes x h k = and-eq-true-iff (leb nought x) (leb x nine) .1 (le-leb nought x h, le-leb x nine k)
-
-pub isDigit-low : (x : ℕ) → x < nought → isDigit x ≡ false
-isDigit-low x h = rw (lt-leb nought x h) refl
-
-pub isDigit-high : (x : ℕ) → nine < x → isDigit x ≡ false
-isDigit-high x h = rw (le-leb nought x (omega arith), lt-leb x nine h) refl
+-- ---- digits
 
 pub every-free : (c : ℕ) → isDigit c ≡ false → (p : List ℕ) → every isDigit p ≡ true → Free c p
 unfolding every
@@ -51,10 +39,10 @@ every-free c n (x ∷ p) e =
 pub component-digits : (p : List ℕ) → component p ≡ true → every isDigit p ≡ true
 unfolding component every
 component-digits [] e = refl
-component-digits (x ∷ p) e = step (eqb x nought) refl p e
+component-digits (x ∷ p) e = step (eqb x digit0) refl p e
   where
-    step : (b : Bool) → eqb x nought ≡ b → (p : List ℕ) → pick b (eqb (length p) 0) (every isDigit (x ∷ p)) ≡ true → every isDigit (x ∷ p) ≡ true
-    step true h [] k = let f : x ≡ nought = eqb-true x nought h in rw f refl
+    step : (b : Bool) → eqb x digit0 ≡ b → (p : List ℕ) → pick b (eqb (length p) 0) (every isDigit (x ∷ p)) ≡ true → every isDigit (x ∷ p) ≡ true
+    step true h [] k = let f : x ≡ digit0 = eqb-true x digit0 h in rw f refl
     step true h (y ∷ p) k = absurd (false≢true (sym (ne-eqb (length (y ∷ p)) 0 (omega arith)) ∙ k))
     step false h p k = k
 
@@ -92,45 +80,34 @@ components-one (x ∷ p) f = rw (ne-eqb x dot (f .0)) (ap (onFirst x) (component
 pub components-dot : (p w : List ℕ) → Free dot p → components (p ++ dot ∷ w) ≡ p ∷ components w
 components-dot p w f = components-append p w ∙ ap (λ ps. ps ++ components w) (components-one p f)
 
--- ---- all
-
-pub all-append : (p : List ℕ → Bool) (us ws : List (List ℕ)) → all p (us ++ ws) ≡ all p us && all p ws
-unfolding all
-all-append p [] ws = refl
-all-append p (u ∷ us) ws = step (p u) (all-append p us ws)
-  where
-    step : (b : Bool) → all p (us ++ ws) ≡ all p us && all p ws → b && all p (us ++ ws) ≡ (b && all p us) && all p ws
-    step true ih = ih
-    step false ih = refl
-
 -- ---- formed
 
 pub formed-one : (p : List ℕ) → component p ≡ true → formed p ≡ true
-unfolding formed all
+unfolding formed every
 formed-one p e = rw (components-one p (every-free dot refl p (component-digits p e)), e) refl
 
 pub formed-dot : (p w : List ℕ) → component p ≡ true → formed (p ++ dot ∷ w) ≡ formed w
-unfolding formed all
+unfolding formed every
 formed-dot p w e = rw (components-dot p w (every-free dot refl p (component-digits p e)), e) refl
 
 pub formed-append : (u w : List ℕ) → formed u ≡ true → formed w ≡ true → formed (u ++ dot ∷ w) ≡ true
 unfolding formed
-formed-append u w e f = ap (all component) (components-append u w) ∙ all-append component (components u) (components w) ∙ and-eq-true-iff (formed u) (formed w) .1 (e, f)
+formed-append u w e f = ap (every component) (components-append u w) ∙ every-append component (components u) (components w) ∙ and-eq-true-iff (formed u) (formed w) .1 (e, f)
 
 -- the first component may have lost some of its digits
 loose : List (List ℕ) → Bool
 loose [] = true
-loose (p ∷ ps) = every isDigit p && all component ps
+loose (p ∷ ps) = every isDigit p && every component ps
 
-loosen : (ps : List (List ℕ)) → all component ps ≡ true → loose ps ≡ true
-unfolding loose all
+loosen : (ps : List (List ℕ)) → every component ps ≡ true → loose ps ≡ true
+unfolding loose every
 loosen [] e = refl
 loosen (p ∷ ps) e =
-    let b = and-eq-true-iff (component p) (all component ps) .0 e in
-    and-eq-true-iff (every isDigit p) (all component ps) .1 (component-digits p (b .0), b .1)
+    let b = and-eq-true-iff (component p) (every component ps) .0 e in
+    and-eq-true-iff (every isDigit p) (every component ps) .1 (component-digits p (b .0), b .1)
 
 loose-free : (c : ℕ) → isDigit c ≡ false → dot ≢ c → (u : List ℕ) → loose (components u) ≡ true → Free c u
-unfolding components loose every all
+unfolding components loose every
 loose-free c n k [] e = tt
 loose-free c n k (x ∷ u) e = step (eqb x dot) refl (components u) (loose-free c n k u) e
   where
@@ -141,9 +118,9 @@ loose-free c n k (x ∷ u) e = step (eqb x dot) refl (components u) (loose-free 
         let d = and-eq-true-iff (isDigit x) true .0 (b .0) in
         (λ is. true≢false (sym (d .0) ∙ ap isDigit is ∙ n), ih refl)
     step false h (p ∷ ps) ih e =
-        let b = and-eq-true-iff (isDigit x && every isDigit p) (all component ps) .0 e in
+        let b = and-eq-true-iff (isDigit x && every isDigit p) (every component ps) .0 e in
         let d = and-eq-true-iff (isDigit x) (every isDigit p) .0 (b .0) in
-        (λ is. true≢false (sym (d .0) ∙ ap isDigit is ∙ n), ih (and-eq-true-iff (every isDigit p) (all component ps) .1 (d .1, b .1)))
+        (λ is. true≢false (sym (d .0) ∙ ap isDigit is ∙ n), ih (and-eq-true-iff (every isDigit p) (every component ps) .1 (d .1, b .1)))
 
 pub formed-free : (c : ℕ) → isDigit c ≡ false → dot ≢ c → (u : List ℕ) → formed u ≡ true → Free c u
 unfolding formed
@@ -158,7 +135,7 @@ pub record UidIs (n : ℕ) (u : List ℕ) : Type 0 where
   pub no-backslash : Free backslash u
 
 formed-some : (u : List ℕ) → formed u ≡ true → 1 ≤ length u
-unfolding formed components all component
+unfolding formed components every component
 formed-some [] e = absurd (false≢true e)
 formed-some (x ∷ u) e = omega arith
 

@@ -14,14 +14,15 @@ use lib.Dec.{eqb, leb}
 use lib.ListN.{length, take, drop, getD, length-append}
 use lib.Seq.{getD-take, getD-drop}
 use Rattle.basis.specs.Bytes.{part}
-use Rattle.basis.specs.Pieces.{backslash}
-use Rattle.basis.proofs.BytesLaws.{part-none, length-part}
+use Rattle.basis.specs.Pieces.{backslash, firstPiece, pieceEnd}
+use Rattle.basis.specs.Choice.{every}
+use Rattle.basis.proofs.BytesLaws.{part-none, length-part, part-part, part-cons, part-front}
 use Rattle.basis.proofs.PiecesLaws.{Free}
-use Rattle.uid.specs.Uid.{dot, component, components, all, formed, uidUpto}
-use Rattle.uid.specs.Scan.{firstPiece, pieceEnd, uidSpan, lead}
-use Rattle.uid.proofs.PartLaws.{part-part, part-cons, part-front}
+use Rattle.basis.proofs.PieceEndLaws.{firstPiece-cons, firstPiece-none, firstPiece-stop, firstPiece-append, Cuts, whole, cut, cuts}
+use Rattle.uid.specs.Uid.{dot, component, components, formed, uidUpto}
+use Rattle.uid.specs.Scan.{uidSpan, lead}
 use Rattle.uid.proofs.UidLaws.{component-digits, every-free, formed-one, formed-dot, formed-free}
-use Rattle.uid.proofs.ScanLaws.{firstPiece-cons, firstPiece-none, firstPiece-stop, firstPiece-append, Cuts, whole, cut, cuts, lead-le, lead-component, lead-stops, lead-none, formed-spoilt, span-good, span-bad}
+use Rattle.uid.proofs.ScanLaws.{lead-le, lead-component, lead-stops, lead-none, formed-spoilt, span-good, span-bad}
 
 -- ---- uidSpan
 
@@ -143,7 +144,7 @@ module _ (s : List ℕ) (from to longest : ℕ) (in-s : to ≤ length s) where
   upto-long h = sym (ap (λ b. b && formed (part s from to)) (lt-leb (length (part s from to)) longest (omega (arith, length-part s from to in-s))))
 
   pub upto-none : from ≡ to → false ≡ uidUpto longest (part s from to)
-  unfolding formed components all component
+  unfolding formed components every component
   upto-none e =
       let n : part s from to ≡ [] = ap (part s from) (sym e) ∙ part-none s from in
       sym (ap (uidUpto longest) n ∙ and-false (leb 0 longest))

@@ -17,13 +17,13 @@ use native.Mathlib.Omega.{arith}
 use borrow.Author.Tests.{eqb-true, eq-eqb, ne-eqb, leb-true, le-leb}
 use lib.Dec.{eqb, leb}
 use lib.ListN.{length, length-append}
-use Rattle.basis.specs.Choice.{pick}
+use Rattle.basis.specs.Choice.{pick, every, isNone}
 use Rattle.basis.specs.Pieces.{backslash, pieces, after, joined}
 use Rattle.basis.proofs.PiecesLaws.{Free, FreeAll, free-append, pieces-joined, joined-pieces}
-use Rattle.uid.specs.Uid.{all, isUid, longestUid}
-use Rattle.uid.specs.Value.{mostUids, ifUids, trimmed, uidsOf, isNone, uidsFault, padOf, valueOf}
+use Rattle.uid.specs.Uid.{isUid, longestUid}
+use Rattle.uid.specs.Value.{mostUids, ifUids, trimmed, uidsOf, uidsFault, zeroPad, valueOf}
 use Rattle.uid.proofs.UidLaws.{uidUpto-is}
-use Rattle.uid.proofs.PadLaws.{length-padded, trimmed-padOf, padOf-trimmed}
+use Rattle.uid.proofs.PadLaws.{length-padded, trimmed-zeroPad, zeroPad-trimmed}
 
 -- ---- Short
 
@@ -35,11 +35,11 @@ Short n (u ∷ us) = (length u ≤ n) × Short n us
 -- ---- uidsOf and valueOf
 
 -- what each UID is like, of several
-pub uids-are : (us : List (List ℕ)) → all isUid us ≡ true → FreeAll 0 us × FreeAll backslash us × Short longestUid us
-unfolding all
+pub uids-are : (us : List (List ℕ)) → every isUid us ≡ true → FreeAll 0 us × FreeAll backslash us × Short longestUid us
+unfolding every
 uids-are [] e = (tt, tt, tt)
 uids-are (u ∷ us) e =
-    let b = and-eq-true-iff (isUid u) (all isUid us) .0 e in
+    let b = and-eq-true-iff (isUid u) (every isUid us) .0 e in
     let h = uidUpto-is longestUid u (b .0) in
     let ih = uids-are us (b .1) in
     ((h .no-zero, ih .0), (h .no-backslash, ih .1), (h .upto, ih .2))
@@ -69,7 +69,7 @@ unfolding uidsOf
 uidsOf-odd [] n = absurd (n refl)
 uidsOf-odd (x ∷ v) n = rw (ne-eqb (length (x ∷ v) % 2) 0 n) refl
 
-ifUids-yes : (us : List (List ℕ)) → length us ≤ mostUids → all isUid us ≡ true → ifUids us ≡ some us
+ifUids-yes : (us : List (List ℕ)) → length us ≤ mostUids → every isUid us ≡ true → ifUids us ≡ some us
 unfolding ifUids
 ifUids-yes us h e = rw (le-leb (length us) mostUids h, e) refl
 
@@ -77,37 +77,37 @@ valueOf-some : (u : List ℕ) (us : List (List ℕ)) → 1 ≤ length u → 0 < 
 unfolding valueOf joined
 valueOf-some u us h = simp length-append (omega arith)
 
-pub uidsOf-joined : (us : List (List ℕ)) → length us ≤ mostUids → all isUid us ≡ true → uidsOf (valueOf us) ≡ some us
-unfolding uidsOf valueOf joined padOf all
+pub uidsOf-joined : (us : List (List ℕ)) → length us ≤ mostUids → every isUid us ≡ true → uidsOf (valueOf us) ≡ some us
+unfolding uidsOf valueOf joined zeroPad every
 uidsOf-joined [] h e = refl
 uidsOf-joined (u ∷ us) h e =
     let a = uids-are (u ∷ us) e in
-    let b = and-eq-true-iff (isUid u) (all isUid us) .0 e in
+    let b = and-eq-true-iff (isUid u) (every isUid us) .0 e in
     uidsOf-some (valueOf (u ∷ us)) (valueOf-some u us (uidUpto-is longestUid u (b .0) .some)) (valueOf-even (u ∷ us))
-    ∙ ap (λ w. ifUids (pieces w)) (trimmed-padOf (joined (u ∷ us)) (joined-free (u ∷ us) (a .0)))
+    ∙ ap (λ w. ifUids (pieces w)) (trimmed-zeroPad (joined (u ∷ us)) (joined-free (u ∷ us) (a .0)))
     ∙ ap ifUids (pieces-joined u us (a .1))
     ∙ ifUids-yes (u ∷ us) h e
 
 pub record UidsAre (v : List ℕ) (us : List (List ℕ)) : Type 0 where
   pub value : v ≡ valueOf us
   pub few : length us ≤ mostUids
-  pub uids : all isUid us ≡ true
+  pub uids : every isUid us ≡ true
   pub cut : 0 < length v → us ≡ pieces (trimmed v)
 
-ifUids-is : (ps us : List (List ℕ)) → ifUids ps ≡ some us → (ps ≡ us) × (length us ≤ mostUids) × (all isUid us ≡ true)
+ifUids-is : (ps us : List (List ℕ)) → ifUids ps ≡ some us → (ps ≡ us) × (length us ≤ mostUids) × (every isUid us ≡ true)
 unfolding ifUids
-ifUids-is ps us e = step (leb (length ps) mostUids) refl (all isUid ps) refl e
+ifUids-is ps us e = step (leb (length ps) mostUids) refl (every isUid ps) refl e
   where
-    step : (a : Bool) → leb (length ps) mostUids ≡ a → (b : Bool) → all isUid ps ≡ b → _≡_ {A = Option (List (List ℕ))} (pick (a && b) (some ps) none) (some us)
-        → (ps ≡ us) × (length us ≤ mostUids) × (all isUid us ≡ true)
+    step : (a : Bool) → leb (length ps) mostUids ≡ a → (b : Bool) → every isUid ps ≡ b → _≡_ {A = Option (List (List ℕ))} (pick (a && b) (some ps) none) (some us)
+        → (ps ≡ us) × (length us ≤ mostUids) × (every isUid us ≡ true)
     step true f true g k =
         let i : ps ≡ us = Option·some-injective ps us k in
-        (i, omega (arith, leb-true (length ps) mostUids f, ap length i), ap (all isUid) (sym i) ∙ g)
+        (i, omega (arith, leb-true (length ps) mostUids f, ap length i), ap (every isUid) (sym i) ∙ g)
     step true f false g k = absurd (Option·none-ne-some us k)
     step false f b g k = absurd (Option·none-ne-some us k)
 
 pub uidsOf-are : (v : List ℕ) (us : List (List ℕ)) → uidsOf v ≡ some us → UidsAre v us
-unfolding uidsOf valueOf joined padOf all
+unfolding uidsOf valueOf joined zeroPad every
 uidsOf-are [] us e =
     let i : [] ≡ us = Option·some-injective [] us e in
     rw (← i) record { value = refl; few = omega arith; uids = refl; cut = λ h. absurd (omega arith) }
@@ -118,7 +118,7 @@ uidsOf-are (x ∷ v) us e = step (eqb (length (x ∷ v) % 2) 0) refl e
         let i = ifUids-is (pieces (trimmed (x ∷ v))) us k in
         let j : trimmed (x ∷ v) ≡ joined us = sym (joined-pieces (trimmed (x ∷ v))) ∙ ap joined (i .0) in
         record {
-          value = padOf-trimmed (x ∷ v) (eqb-true (length (x ∷ v) % 2) 0 f) ∙ ap (λ t. t ++ padOf t) j;
+          value = zeroPad-trimmed (x ∷ v) (eqb-true (length (x ∷ v) % 2) 0 f) ∙ ap (λ t. t ++ zeroPad t) j;
           few = i .1;
           uids = i .2;
           cut = λ h. sym (i .0);
@@ -157,7 +157,7 @@ pub valueOf-inj : (us ws : List (List ℕ)) → FreeAll 0 us → FreeAll 0 ws �
     → valueOf us ≡ valueOf ws → us ≡ ws
 unfolding valueOf
 valueOf-inj us ws a b f g h k e =
-    joined-inj us ws f g h k (sym (trimmed-padOf (joined us) (joined-free us a)) ∙ ap trimmed e ∙ trimmed-padOf (joined ws) (joined-free ws b))
+    joined-inj us ws f g h k (sym (trimmed-zeroPad (joined us) (joined-free us a)) ∙ ap trimmed e ∙ trimmed-zeroPad (joined ws) (joined-free ws b))
 
 after-length : (us : List (List ℕ)) → Short longestUid us → length (after us) ≤ (longestUid + 1) * length us
 unfolding after
@@ -165,6 +165,6 @@ after-length [] h = omega arith
 after-length (u ∷ us) h = simp length-append (omega (arith, after-length us (h .1), h .0))
 
 pub valueOf-length : (us : List (List ℕ)) → Short longestUid us → length (valueOf us) ≤ (longestUid + 1) * length us
-unfolding valueOf joined padOf
+unfolding valueOf joined zeroPad
 valueOf-length [] h = omega arith
 valueOf-length (u ∷ us) h = omega (arith, length-padded (joined (u ∷ us)) .1, length-append u (after us), after-length us (h .1), h .0)

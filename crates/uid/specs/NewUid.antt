@@ -7,12 +7,13 @@ use mathlib.Core.List.{List, [], _∷_, _++_, map}
 use Prim.Native.Nat.{ℕ, zero, suc, _+_, _/_, _%_}
 use lib.Dec.{ltb}
 use Rattle.basis.specs.Choice.{fork}
-use Rattle.uid.specs.Uid.{dot, nought}
+use Rattle.basis.specs.Text.{digit0}
+use Rattle.uid.specs.Uid.{dot}
 use Rattle.uid.specs.Value.{valueOf}
 
 unfoldable pub digitsIn : ℕ → ℕ → List ℕ
 digitsIn zero n = []
-digitsIn (suc k) n = fork (ltb n 10) (λ _. (nought + n) ∷ []) (λ _. digitsIn k (n / 10) ++ (nought + n % 10) ∷ [])
+digitsIn (suc k) n = fork (ltb n 10) (λ _. (digit0 + n) ∷ []) (λ _. digitsIn k (n / 10) ++ (digit0 + n % 10) ∷ [])
 
 unfoldable pub decimal : ℕ → List ℕ
 decimal n = digitsIn (suc n) n

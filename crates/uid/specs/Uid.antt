@@ -5,18 +5,17 @@
 --     formed u            u is made of components with dots between them
 --     components u        u cut at its dots: one component more than there are dots
 --     component p         p is a component: digits, at least one, the first no zero unless it is the only one
---     isDigit x           the byte x is a decimal digit
---     all p us            the test p holds of each of us
 --     longestUid          the most characters of a UID: 64
 --     longestRoot         the most characters of a root: 59, so that a dot and a number of four digits still make a UID (U4)
---     dot, nought, nine   the bytes 2E, 30 and 39 hex
+--     dot                 the byte 2E hex
 -- Looser than PS3.5: nothing is asked of the first two components, and one component is enough (U3).
-use mathlib.Core.Bool.{Bool, true, false, _&&_}
+use mathlib.Core.Bool.{Bool, false, _&&_}
 use mathlib.Core.List.{List, [], _∷_}
 use Prim.Native.Nat.{ℕ}
 use lib.Dec.{eqb, leb}
 use lib.ListN.{length}
 use Rattle.basis.specs.Choice.{pick, fork, every}
+use Rattle.basis.specs.Text.{digit0, isDigit}
 use Rattle.basis.specs.Pieces.{onFirst}
 
 abbrev pub longestUid : ℕ
@@ -28,31 +27,18 @@ longestRoot = 59
 abbrev pub dot : ℕ
 dot = 46
 
-abbrev pub nought : ℕ
-nought = 48
-
-abbrev pub nine : ℕ
-nine = 57
-
-abbrev pub isDigit : ℕ → Bool
-isDigit x = leb nought x && leb x nine
-
 -- Document 01, UIDs, 1st sentence: a component is not empty, and only "0" itself begins with a zero
 unfoldable pub component : List ℕ → Bool
 component [] = false
-component (x ∷ p) = pick (eqb x nought) (eqb (length p) 0) (every isDigit (x ∷ p))
+component (x ∷ p) = pick (eqb x digit0) (eqb (length p) 0) (every isDigit (x ∷ p))
 
 unfoldable pub components : List ℕ → List (List ℕ)
 components [] = [] ∷ []
 components (x ∷ u) = fork (eqb x dot) (λ _. [] ∷ components u) (λ _. onFirst x (components u))
 
-unfoldable pub all : (List ℕ → Bool) → List (List ℕ) → Bool
-all p [] = true
-all p (u ∷ us) = p u && all p us
-
 -- Document 01, UIDs, 1st sentence: components joined by dots. Where there is no character, the one component is empty
 unfoldable pub formed : List ℕ → Bool
-formed u = all component (components u)
+formed u = every component (components u)
 
 abbrev pub uidUpto : ℕ → List ℕ → Bool
 uidUpto n u = leb (length u) n && formed u

@@ -7,7 +7,7 @@ ghost use Rattle.buffer.specs.Buffer.{laid};
 ghost use Rattle.uid.specs.Uid.{uidUpto, isUid, isRoot};
 ghost use Rattle.uid.specs.Value.{trimmed, uidsFault};
 ghost use Rattle.uid.specs.NewUid.{decimal, newUid};
-ghost use Rattle.uid.specs.Scan.{lead, uidSpan, pieceEnd};
+ghost use Rattle.uid.specs.Scan.{lead, uidSpan};
 
 // The most characters of a UID, the most of a root, and the most UIDs of a value.
 pub const LONGEST_UID: usize = 64;
@@ -18,11 +18,9 @@ pub const MOST_UIDS: usize = 1000;
 
 const DOT: u8 = b'.';
 
-const NOUGHT: u8 = b'0';
+const DIGIT_0: u8 = b'0';
 
-const NINE: u8 = b'9';
-
-const BACKSLASH: u8 = b'\\';
+const DIGIT_9: u8 = b'9';
 
 // Where the component that begins at `a` ends: `a` where none begins there. A zero is a whole one, so whatever follows it but a
 // dot is found to be wrong by the caller.
@@ -33,15 +31,15 @@ fn component_end(s: &[u8], a: usize, stop: usize) -> usize
     if a == stop {
         return a;
     }
-    if s[a] == NOUGHT {
+    if s[a] == DIGIT_0 {
         return a + 1;
     }
     let mut e = a;
     while e < stop {
-        if s[e] < NOUGHT {
+        if s[e] < DIGIT_0 {
             return e;
         }
-        if NINE < s[e] {
+        if DIGIT_9 < s[e] {
             return e;
         }
         e += 1;
@@ -63,7 +61,7 @@ fn uid_end(s: &[u8], a: usize, stop: usize) -> usize
         if e == stop {
             return e;
         }
-        if s[e] == BACKSLASH {
+        if s[e] == basis::BACKSLASH {
             return e;
         }
         if s[e] != DOT {
@@ -147,32 +145,17 @@ pub fn uids_fault(s: &[u8], from: usize, to: usize) -> bool
     true
 }
 
-// Where the piece that begins at `a` ends: at a backslash, or at `stop`.
-pub fn piece_end(s: &[u8], a: usize, stop: usize) -> usize
-    requires { ⌜ (a ≤ stop) × (stop ≤ length (now s)) ⌝ }
-    ensures { λ r. ⌜ r ≡ pieceEnd (now (s .entry)) a stop ⌝ }
-{
-    let mut e = a;
-    while e < stop {
-        if s[e] == BACKSLASH {
-            return e;
-        }
-        e += 1;
-    }
-    e
-}
-
 // A number in decimal at `pos`; the place past it. It calls itself once for each digit but the last.
 pub fn put_decimal(n: usize, out: &mut [u8], pos: usize) -> usize
     requires { ⌜ pos + length (decimal n) < 2 ^ 64 ⌝ }
     ensures { λ r. ⌜ (r ≡ pos + length (decimal n)) × (now (out .exit) ≡ laid (now (out .entry)) pos (decimal n)) ⌝ }
 {
     if n < 10 {
-        buffer::put(out, pos, NOUGHT + n as u8);
+        buffer::put(out, pos, DIGIT_0 + n as u8);
         return pos + 1;
     }
     let p = put_decimal(n / 10, out, pos);
-    buffer::put(out, p, NOUGHT + (n % 10) as u8);
+    buffer::put(out, p, DIGIT_0 + (n % 10) as u8);
     p + 1
 }
 

@@ -1,5 +1,5 @@
 -- What document 01 says of a VR, as four questions about its two letters.
---     known             the 34 VRs
+--     allVrs            the 34 VRs
 --     long, served      those with a length of four bytes; those that list values serve
 --     kindOf vr         how an element's header goes on after the VR: Unknown, Short, Long or Sequence
 --     servedByLists vr  a replacement list may give a value for it
@@ -18,8 +18,8 @@ use Rattle.vr.specs.declared.Kind.{Kind}
 use Rattle.vr.specs.declared.Kind.the-variants.{Unknown, Short, Long, Sequence}
 
 -- Document 01, Layout, 1st point: the VRs that may stand in a data set
-abbrev pub known : List ℕ
-known =
+abbrev pub allVrs : List ℕ
+allVrs =
     AE ∷ AS ∷ AT ∷ CS ∷ DA ∷ DS ∷ DT ∷ FD ∷ FL ∷ IS ∷ LO ∷ LT ∷ OB ∷ OD ∷ OF ∷ OL ∷ OV ∷ OW ∷ PN ∷ SH ∷ SL ∷ SQ ∷ SS ∷ ST ∷ SV ∷ TM ∷ UC ∷ UI ∷ UL ∷ UN ∷ UR ∷ US ∷ UT ∷ UV ∷ []
 
 -- Document 01, Layout, 1st point: those with two zero bytes and then a length of four bytes; the others have one of two bytes
@@ -30,7 +30,7 @@ unfoldable pub kindOf : ℕ → Kind
 kindOf vr =
     pick (eqb vr SQ) Sequence
     (pick (among vr long) Long
-    (pick (among vr known) Short
+    (pick (among vr allVrs) Short
     Unknown))
 
 -- Document 01, What each action writes, 2nd paragraph: the VRs that list values serve

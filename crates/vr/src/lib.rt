@@ -1,7 +1,7 @@
 // What document 01 says of each of the 34 VRs. A VR is the number that its two letters spell, lowest byte first.
 ghost use mathlib.Core.Path.{_≡_};
 ghost use lib.ListN.{length};
-ghost use Rattle.vr.specs.Vr.{known, kindOf, servedByLists, dummyOf, inRoom};
+ghost use Rattle.vr.specs.Vr.{allVrs, kindOf, servedByLists, dummyOf, inRoom};
 
 pub const AE: u64 = 0x4541;
 
@@ -88,7 +88,7 @@ pub enum Kind {
 
 // All of them, in document 01's order.
 pub fn vrs() -> [u64; 34]
-    ensures { λ r. ⌜ r ≡ known ⌝ }
+    ensures { λ r. ⌜ r ≡ allVrs ⌝ }
 {
     [
         AE,

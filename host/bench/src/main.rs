@@ -7,6 +7,7 @@
 //! (a) 1,000 data sets of 200 elements with 10 UIDs each, the ledger handed on while it has room; (b) one data set
 //! with a value of 64 MB, also against what no export can do without: copying it and clearing the rest of the
 //! room; (c) growth, from a thousand elements to a million.
+#![forbid(unsafe_code)]
 
 mod measure;
 mod sets;
@@ -57,7 +58,7 @@ fn many() -> Line {
     let (mut ledger, mut out) = (vec![0; LEDGER], vec![0; 2 * sets[0].len()]);
     let (mut ledger2, mut out2) = (ledger.clone(), out.clone());
     let [one, other] = medians([&mut || run_batch(proved, &sets, &mut ledger, &mut out, 10), &mut || {
-        run_batch(second, &sets, &mut ledger2, &mut out2, 10)
+        run_batch(second, &sets, &mut ledger2, &mut out2, 10);
     }]);
     assert!(ledger == ledger2 && out == out2, "the two programs differ");
     let per =
@@ -100,7 +101,7 @@ fn growth(elements: usize) -> Line {
     let (mut ledger2, mut out2) = (ledger.clone(), out.clone());
     let [one, other] =
         medians([&mut || (0..times).for_each(|_| run(proved, &data, &mut ledger, &mut out)), &mut || {
-            (0..times).for_each(|_| run(second, &data, &mut ledger2, &mut out2))
+            (0..times).for_each(|_| run(second, &data, &mut ledger2, &mut out2));
         }])
         .map(|time| time / times as u32);
     assert!(out == out2 && ledger == ledger2, "the two programs differ");

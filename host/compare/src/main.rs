@@ -22,6 +22,7 @@
 //! | `fates`, `action` | what is done with one element, and the comparison of the library's answers about it |
 //! | `planted` | wrong programs, to see the comparison fail |
 //! | `shrink` | a smaller data set with the same difference |
+#![forbid(unsafe_code)]
 
 mod action;
 mod damage;

@@ -8,6 +8,7 @@ use std::path::Path;
 use std::{env, fs, process};
 
 /// The files and what they hold.
+#[must_use]
 pub fn files() -> [(&'static str, Vec<u8>); 2] {
     [("slice-1.dataset", slice(1)), ("slice-2.dataset", slice(2))]
 }

@@ -1,6 +1,8 @@
 //! What the library does with an attribute, by VR, in words. Nothing here knows a rule: the library is asked
 //! for each VR, and the answers are put together.
 
+use library::Refusal;
+
 use crate::vrs;
 
 /// What is done with an attribute, for each VR in the order of `vrs::ALL`.
@@ -122,7 +124,7 @@ impl Actions {
 /// Whether the library refuses a data set for holding an element with this tag (No. 7).
 fn is_barred(tag: u32) -> bool {
     let element = [&tag.rotate_left(16).to_le_bytes()[..], b"LO\0\0"].concat();
-    library::view(&element, tag.into()).refusal == 7
+    matches!(library::view(&element, tag.into()), Err(Refusal { number: 7, .. }))
 }
 
 #[cfg(test)]

@@ -6,6 +6,7 @@ use crate::actions::Actions;
 use crate::arguments::Arguments;
 use crate::attributes::{self, Row, read_tag, rows};
 use crate::json::Json;
+use crate::outcome::{Ended, reported};
 use crate::printer::tell;
 use crate::settings::Settings;
 use crate::stop::Stop;
@@ -46,32 +47,22 @@ struct Explained {
 
 pub fn run(mut arguments: Arguments, out: &mut impl Write) -> Result<(), Stop> {
     let json = arguments.flag("--json")?;
-    let settings = Settings { root: "1".into(), ..Settings::from(&mut arguments)? };
-    if let [word, ..] = &arguments.words()?[..] {
-        return Err(Stop::Usage(format!("explain takes settings alone, not {}", word.display())));
-    }
+    let settings = reported(settings(arguments), json, None, out)?;
     if let Err(refusal) = settings.judge(&[], 0) {
-        let line = settings.line(refusal);
         if json {
-            let settings = Settings { root: String::new(), ..settings }.json();
-            let report = vec![("settings", settings), ("refusal", refusal.json())];
-            writeln!(out, "{}", Json::Object(report))?;
+            let about = vec![("settings", settings.json())];
+            writeln!(out, "{}", Ended::Refused(refusal).report(about, vec![]))?;
             out.flush()?;
         }
-        tell(line);
+        tell(settings.line(refusal));
         return Err(Stop::Refused);
     }
-    let settings = Settings { root: String::new(), ..settings };
     let explained = rows().iter().chain(&RULES).map(|row| explain(row, &settings));
     if json {
-        let rows = explained.map(|explained| explained.json()).collect();
-        let report = vec![
-            ("settings", settings.json()),
-            ("refusal", Json::Null),
-            ("because_of", Summary::of(&settings).json()),
-            ("rows", Json::List(rows)),
-        ];
-        return Ok(writeln!(out, "{}", Json::Object(report))?);
+        let rows = explained.map(Explained::json).collect();
+        let about = vec![("settings", settings.json())];
+        let told = vec![("because_of", Summary::of(&settings).json()), ("rows", Json::List(rows))];
+        return Ok(writeln!(out, "{}", Ended::Well.report(about, told))?);
     }
     Summary::of(&settings).print(out)?;
     writeln!(out)?;
@@ -79,6 +70,15 @@ pub fn run(mut arguments: Arguments, out: &mut impl Write) -> Result<(), Stop> {
         writeln!(out, "{}", explained.line())?;
     }
     Ok(())
+}
+
+/// The settings of a call that has nothing else.
+fn settings(mut arguments: Arguments) -> Result<Settings, Stop> {
+    let settings = Settings::from(&mut arguments)?;
+    match &arguments.words()?[..] {
+        [] => Ok(settings),
+        [word, ..] => Err(Stop::Usage(format!("explain takes settings alone, not {}", word.display()))),
+    }
 }
 
 fn explain(row: &Row, settings: &Settings) -> Explained {
@@ -108,14 +108,13 @@ impl Explained {
     }
 
     fn json(self) -> Json {
-        let text = |text: Option<String>| text.map_or(Json::Null, Json::Text);
         Json::Object(vec![
             ("tag", self.row.printed.into()),
             ("name", self.row.name.into()),
             ("action", self.words.into()),
-            ("without_keep", text(self.basic)),
-            ("list", text(self.listed.as_ref().map(|(name, _)| name.to_string()))),
-            ("value", text(self.listed.map(|(_, value)| value))),
+            ("without_keep", self.basic.into()),
+            ("list", self.listed.as_ref().map(|(name, _)| *name).into()),
+            ("value", self.listed.map(|(_, value)| value).into()),
         ])
     }
 }

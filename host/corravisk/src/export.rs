@@ -8,15 +8,15 @@ use std::ffi::OsString;
 use std::io::Write;
 use std::path::{Path, PathBuf};
 
-use library::Report;
+use library::{Accepted, Refusal};
 
 use crate::arguments::Arguments;
-use crate::files::{NewFile, guard_written, has_header, is_same, name_both, read_data_set};
+use crate::files::{NewFile, guard_written, is_same, name_both, read_data_set};
 use crate::json::Json;
 use crate::ledger::Ledger;
+use crate::outcome::{Ended, Refused, refusal_field};
 use crate::printer::{Printer, tell};
 use crate::progress::Progress;
-use crate::refusals::Refusal;
 use crate::settings::Settings;
 use crate::stop::Stop;
 use crate::summary::Summary;
@@ -29,9 +29,8 @@ pub fn run(mut arguments: Arguments, out: &mut Printer<impl Write>) -> Result<()
         Ok(call) => call.run(json, out),
         Err(stop) => {
             if json {
-                let error = vec![("input", Json::Null), ("what", stop.to_string().into())];
-                let report = vec![("error", Json::Object(error)), ("exports", Json::List(vec![]))];
-                writeln!(out, "{}", Json::Object(report))?;
+                let none = vec![("exports", Json::List(vec![]))];
+                writeln!(out, "{}", Ended::Stopped(&stop, None).report(vec![], none))?;
             }
             Err(stop)
         }
@@ -48,16 +47,20 @@ struct Call {
     ledger: Ledger,
 }
 
+/// What became of one data set.
+type Outcome = Result<Accepted, Refused>;
+
 impl Call {
     fn from(mut arguments: Arguments) -> Result<Call, Stop> {
         let root = arguments.text("--root")?;
         let ledger = arguments.path("--ledger")?;
-        let mut settings = Settings::from(&mut arguments)?;
+        let settings = Settings::from(&mut arguments)?;
         let jobs = jobs(arguments.words()?)?;
-        settings.root =
-            root.ok_or_else(|| Stop::Usage("export needs --root, the root of new UIDs".into()))?;
+        if root.is_none() {
+            return Err(Stop::Usage("export needs --root, the root of new UIDs".into()));
+        }
         guard_inputs(&jobs, &settings, ledger.as_deref())?;
-        Ok(Call { settings, jobs, ledger: Ledger::open(ledger)? })
+        Ok(Call { settings: Settings { root, ..settings }, jobs, ledger: Ledger::open(ledger)? })
     }
 
     fn run(self, json: bool, out: &mut impl Write) -> Result<(), Stop> {
@@ -71,30 +74,27 @@ impl Call {
             print_ledger(&ledger, out)?;
             out.flush()?;
         }
-        let (reports, stop) = export_all(&jobs, &settings, &mut ledger, out, json)?;
+        let (outcomes, stop) = export_all(&jobs, &settings, &mut ledger, out, json)?;
         if json {
-            let exports = jobs.iter().zip(&reports).map(|(job, report)| job.json(report));
-            let mut left = jobs[reports.len()..].iter().map(|job| job.input.display().to_string());
-            let error = stop.as_ref().map_or(Json::Null, |stop| {
-                let input = left.next().map_or(Json::Null, Json::Text);
-                Json::Object(vec![("input", input), ("what", stop.to_string().into())])
-            });
-            let report = Json::Object(vec![
+            let exports = jobs.iter().zip(&outcomes).map(|(job, outcome)| job.json(outcome));
+            let mut left = jobs[outcomes.len()..].iter().map(|job| job.input.as_path());
+            let ended = stop.as_ref().map_or(Ended::Well, |stop| Ended::Stopped(stop, left.next()));
+            let about = vec![
                 ("settings", settings.json()),
                 ("because_of", summary.json()),
                 ("ledger", ledger_json(&ledger)),
-                ("refusal", Json::Null),
-                ("error", error),
+            ];
+            let done = vec![
                 ("exports", Json::List(exports.collect())),
-                ("not_tried", Json::List(left.map(Json::Text).collect())),
-            ]);
-            writeln!(out, "{report}")?;
+                ("not_tried", Json::List(left.map(Json::from).collect())),
+            ];
+            writeln!(out, "{}", ended.report(about, done))?;
         } else {
-            print_end(&jobs, &reports, &ledger, out)?;
+            print_end(&jobs, &outcomes, &ledger, out)?;
         }
         match stop {
             Some(stop) => Err(stop),
-            None if reports.iter().any(|report| report.refusal != 0) => Err(Stop::Refused),
+            None if outcomes.iter().any(Result::is_err) => Err(Stop::Refused),
             None => Ok(()),
         }
     }
@@ -160,9 +160,8 @@ fn guard_inputs(jobs: &[Job], settings: &Settings, ledger: Option<&Path>) -> Res
 /// Settings that the station does not take: no data set is looked at.
 fn refuse_all(refusal: Refusal, settings: &Settings, json: bool, out: &mut impl Write) -> Result<(), Stop> {
     if json {
-        let report =
-            vec![("settings", settings.json()), ("refusal", refusal.json()), ("exports", Json::List(vec![]))];
-        writeln!(out, "{}", Json::Object(report))?;
+        let (about, none) = (vec![("settings", settings.json())], vec![("exports", Json::List(vec![]))]);
+        writeln!(out, "{}", Ended::Refused(refusal).report(about, none))?;
         out.flush()?;
     }
     tell(settings.line(refusal));
@@ -176,89 +175,91 @@ fn export_all(
     ledger: &mut Ledger,
     out: &mut impl Write,
     json: bool,
-) -> Result<(Vec<Report>, Option<Stop>), Stop> {
+) -> Result<(Vec<Outcome>, Option<Stop>), Stop> {
     let progress = Progress::of(jobs.len());
-    let mut reports = Vec::with_capacity(jobs.len());
+    let mut outcomes = Vec::with_capacity(jobs.len());
     for (done, job) in jobs.iter().enumerate() {
         progress.show(done);
-        let outcome = job.run(settings, ledger);
+        let ran = job.run(settings, ledger);
         progress.clear();
-        let (report, has_header) = match outcome {
-            Ok(done) => done,
-            Err(stop) => return Ok((reports, Some(stop))),
+        let outcome = match ran {
+            Ok(outcome) => outcome,
+            Err(stop) => return Ok((outcomes, Some(stop))),
         };
-        if report.refusal != 0 {
-            out.flush()?;
-            let refusal = Refusal { number: report.refusal, offset: report.offset };
-            refusal.tell(&job.input, has_header);
-        } else if !json {
-            writeln!(out, "{}", job.line(&report))?;
+        match &outcome {
+            Ok(accepted) if !json => writeln!(out, "{}", job.line(accepted))?,
+            Ok(_) => {}
+            Err(refused) => {
+                out.flush()?;
+                refused.tell(&job.input);
+            }
         }
-        reports.push(report);
+        outcomes.push(outcome);
     }
-    Ok((reports, None))
+    Ok((outcomes, None))
 }
 
 impl Job {
-    /// Exports, and writes output and ledger both or neither. Says also whether the input looks like a whole file.
-    fn run(&self, settings: &Settings, ledger: &mut Ledger) -> Result<(Report, bool), Stop> {
+    /// Exports, and writes output and ledger both or neither; neither where the library says no.
+    fn run(&self, settings: &Settings, ledger: &mut Ledger) -> Result<Outcome, Stop> {
         let data = read_data_set(&self.input)?;
-        let Exported { report, out, ledger: slots } = exported(settings, &data, ledger);
-        if report.refusal == 0 {
-            let output = NewFile::new(&self.output, &out[..report.length as usize])?;
-            let new_ledger = ledger.written(&slots, report.used)?;
-            name_both(new_ledger, ledger.in_use(), output)?;
-            ledger.hand_on(slots, report.used);
-        }
-        Ok((report, has_header(&data)))
+        let Exported { accepted, out, ledger: slots } = match exported(settings, &data, ledger) {
+            Ok(exported) => exported,
+            Err(refusal) => return Ok(Err(Refused::of(refusal, &data))),
+        };
+        let output = NewFile::new(&self.output, &out[..accepted.length])?;
+        let new_ledger = ledger.written(&slots, accepted.used)?;
+        name_both(new_ledger, ledger.in_use(), output)?;
+        ledger.hand_on(slots, accepted.used);
+        Ok(Ok(accepted))
     }
 
-    fn line(&self, report: &Report) -> String {
-        let Report { length, kept, replaced, renamed, removed, .. } = report;
+    fn line(&self, accepted: &Accepted) -> String {
+        let Accepted { length, kept, replaced, renamed, removed, .. } = accepted;
         let (input, output) = (self.input.display(), self.output.display());
         format!(
             "{input} -> {output}: {length} bytes; {kept} kept, {replaced} replaced, {renamed} renamed, {removed} removed"
         )
     }
 
-    fn json(&self, report: &Report) -> Json {
-        let refusal = Refusal { number: report.refusal, offset: report.offset };
+    /// One of the exports of a report. Of what was refused nothing is written, and the numbers are 0.
+    fn json(&self, outcome: &Outcome) -> Json {
+        let accepted = outcome.as_ref().ok();
+        let refusal = outcome.as_ref().err().map(|refused| refused.refusal);
+        let number = |of: fn(&Accepted) -> u64| accepted.map_or(0, of).into();
         Json::Object(vec![
-            ("input", self.input.display().to_string().into()),
-            (
-                "output",
-                if report.refusal == 0 { self.output.display().to_string().into() } else { Json::Null },
-            ),
-            ("refusal", if report.refusal == 0 { Json::Null } else { refusal.json() }),
-            ("length", report.length.into()),
-            ("kept", report.kept.into()),
-            ("replaced", report.replaced.into()),
-            ("renamed", report.renamed.into()),
-            ("removed", report.removed.into()),
+            ("input", self.input.as_path().into()),
+            ("output", accepted.map(|_| self.output.as_path()).into()),
+            refusal_field(refusal),
+            ("length", accepted.map_or(0, |accepted| accepted.length).into()),
+            ("kept", number(|accepted| accepted.kept)),
+            ("replaced", number(|accepted| accepted.replaced)),
+            ("renamed", number(|accepted| accepted.renamed)),
+            ("removed", number(|accepted| accepted.removed)),
         ])
     }
 }
 
-/// What the library hands back and leaves.
+/// What the library hands back and leaves where it accepts.
 struct Exported {
-    report: Report,
+    accepted: Accepted,
     out: Vec<u8>,
     ledger: Vec<u8>,
 }
 
 /// Runs the library with room for most exports, and with more as long as it asks for more (No. 14).
-fn exported(settings: &Settings, data: &[u8], ledger: &Ledger) -> Exported {
+fn exported(settings: &Settings, data: &[u8], ledger: &Ledger) -> Result<Exported, Refusal> {
     // No export is longer: what grows most is a UID of one character and its backslash, to 64 and a backslash.
     let most = 33 * data.len() + 4_096;
     let mut room = (data.len() + data.len() / 4 + 4_096).min(most);
     loop {
         let mut out = vec![0; room];
         let mut slots = ledger.bytes.clone();
-        let report = library::deidentify(&settings.request(data, ledger.used), &mut slots, &mut out);
-        if report.refusal != 14 || room == most {
-            return Exported { report, out, ledger: slots };
+        match library::deidentify(&settings.request(data, ledger.used), &mut slots, &mut out) {
+            Ok(accepted) => return Ok(Exported { accepted, out, ledger: slots }),
+            Err(Refusal { number: 14, .. }) if room < most => room = (4 * room).min(most),
+            Err(refusal) => return Err(refusal),
         }
-        room = (4 * room).min(most);
     }
 }
 
@@ -269,14 +270,14 @@ fn print_ledger(ledger: &Ledger, out: &mut impl Write) -> Result<(), Stop> {
     }?)
 }
 
-fn print_end(jobs: &[Job], reports: &[Report], ledger: &Ledger, out: &mut impl Write) -> Result<(), Stop> {
-    let done = reports.iter().filter(|report| report.refusal == 0).count();
+fn print_end(jobs: &[Job], outcomes: &[Outcome], ledger: &Ledger, out: &mut impl Write) -> Result<(), Stop> {
+    let done = outcomes.iter().filter(|outcome| outcome.is_ok()).count();
     if jobs.len() > 1 {
-        let left = match jobs.len() - reports.len() {
+        let left = match jobs.len() - outcomes.len() {
             0 => String::new(),
             left => format!(", {left} not exported for trouble with a file"),
         };
-        writeln!(out, "{done} exported, {} refused{left}", reports.len() - done)?;
+        writeln!(out, "{done} exported, {} refused{left}", outcomes.len() - done)?;
     }
     match &ledger.named {
         None => Ok(()),
@@ -288,9 +289,8 @@ fn print_end(jobs: &[Job], reports: &[Report], ledger: &Ledger, out: &mut impl W
 }
 
 fn ledger_json(ledger: &Ledger) -> Json {
-    let path = ledger.named.as_ref().map(|path| path.display().to_string());
     Json::Object(vec![
-        ("file", path.map_or(Json::Null, Json::Text)),
+        ("file", ledger.named.as_deref().into()),
         ("before", ledger.before.into()),
         ("after", ledger.used.into()),
     ])

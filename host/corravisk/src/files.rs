@@ -138,11 +138,6 @@ pub fn real_path(path: &Path) -> Result<PathBuf, Stop> {
     }
 }
 
-/// Whether bytes begin as a whole DICOM file does.
-pub fn has_header(data: &[u8]) -> bool {
-    data.get(128..132) == Some(b"DICM")
-}
-
 /// The folder that a file is in.
 pub fn folder_of(path: &Path) -> &Path {
     match path.parent() {

@@ -1,19 +1,50 @@
 //! JSON, as far as reports need it.
 
 use std::fmt;
+use std::path::Path;
 
+#[derive(Default)]
 pub enum Json {
+    #[default]
     Null,
     Bool(bool),
     Number(i128),
     Text(String),
     List(Vec<Json>),
-    Object(Vec<(&'static str, Json)>),
+    Object(Vec<Field>),
+}
+
+/// A name and what stands under it.
+pub type Field = (&'static str, Json);
+
+/// Null for nothing.
+impl<T: Into<Json>> From<Option<T>> for Json {
+    fn from(value: Option<T>) -> Json {
+        value.map_or(Json::Null, Into::into)
+    }
+}
+
+impl From<bool> for Json {
+    fn from(value: bool) -> Json {
+        Json::Bool(value)
+    }
 }
 
 impl From<u64> for Json {
     fn from(number: u64) -> Json {
         Json::Number(number.into())
+    }
+}
+
+impl From<usize> for Json {
+    fn from(number: usize) -> Json {
+        Json::Number(number as i128)
+    }
+}
+
+impl From<&Path> for Json {
+    fn from(path: &Path) -> Json {
+        Json::Text(path.display().to_string())
     }
 }
 

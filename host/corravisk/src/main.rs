@@ -10,14 +10,15 @@
 //! | module | subject |
 //! |---|---|
 //! | `arguments`, `usage` | the words of the call |
-//! | `stop` | why it ends early, and with which status |
+//! | `stop`, `outcome` | why it ends early, and with which status; how a run ended, in words and in reports |
 //! | `settings`, `lists`, `ledger` | options by name, lists as text, the ledger's file |
 //! | `files` | new files that take their name when they are whole; output and ledger both or neither |
 //! | `printer` | printing, and what becomes of a reader that goes away |
 //! | `export`, `summary` | the main job, and what its settings mean |
 //! | `explain`, `actions` | what is done with each attribute of the table |
 //! | `view`, `dump`, `walk` | what stands in a data set |
-//! | `attributes`, `refusals`, `vrs`, `text`, `json`, `progress` | names, words and forms |
+//! | `attributes`, `vrs`, `text`, `json`, `progress` | names, words and forms |
+#![forbid(unsafe_code)]
 
 mod actions;
 mod arguments;
@@ -29,9 +30,9 @@ mod files;
 mod json;
 mod ledger;
 mod lists;
+mod outcome;
 mod printer;
 mod progress;
-mod refusals;
 mod settings;
 mod stop;
 mod summary;

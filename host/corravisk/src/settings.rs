@@ -2,12 +2,12 @@
 
 use std::path::{Path, PathBuf};
 
-use library::Request;
+use library::{Refusal, Request};
 
 use crate::arguments::Arguments;
 use crate::json::Json;
 use crate::lists::List;
-use crate::refusals::Refusal;
+use crate::outcome;
 use crate::stop::Stop;
 
 /// The options, by bit of the option number.
@@ -23,8 +23,8 @@ pub const LISTS: [&str; 2] = ["study", "site"];
 pub struct Settings {
     pub options: u64,
     pub shift: i64,
-    /// Empty for `explain`, which renames nothing.
-    pub root: String,
+    /// None for `explain`, which renames nothing.
+    pub root: Option<String>,
     /// The study's and the site's.
     pub lists: [List; 2],
 }
@@ -52,17 +52,17 @@ impl Settings {
         };
         let [study, site]: [Option<PathBuf>; 2] = [arguments.path("--study")?, arguments.path("--site")?];
         let lists = [List::read(study)?, List::read(site)?];
-        Ok(Settings { options, shift, root: String::new(), lists })
+        Ok(Settings { options, shift, root: None, lists })
     }
 
-    /// A request of the library with these settings.
+    /// A request of the library with these settings. A root that it accepts stands in for none.
     pub fn request<'r>(&'r self, data: &'r [u8], used: u64) -> Request<'r> {
         let [study, site] = &self.lists;
         Request {
             data,
             options: self.options,
             shift: self.shift,
-            root: self.root.as_bytes(),
+            root: self.root.as_deref().unwrap_or("1").as_bytes(),
             study: &study.bytes,
             site: &site.bytes,
             used,
@@ -77,20 +77,17 @@ impl Settings {
     /// Asks the library whether it takes these settings with this ledger, by an export of an empty data set.
     pub fn judge(&self, ledger: &[u8], used: u64) -> Result<(), Refusal> {
         let mut room = [0; 4_096];
-        let report = library::deidentify(&self.request(&[], used), &mut ledger.to_vec(), &mut room);
-        match report.refusal {
-            0 => Ok(()),
-            number => Err(Refusal { number, offset: report.offset }),
-        }
+        library::deidentify(&self.request(&[], used), &mut ledger.to_vec(), &mut room)?;
+        Ok(())
     }
 
     /// A refusal of these settings in words; one of a list (No. 4) with the line at fault.
     pub fn line(&self, refusal: Refusal) -> String {
         let at_fault = if refusal.number == 4 { self.line_at_fault() } else { None };
         match at_fault {
-            Some((at, Some(why))) => format!("{}: {why}", refusal.line(&at)),
-            Some((at, None)) => refusal.line(&at),
-            None => refusal.line("the settings"),
+            Some((at, Some(why))) => format!("{}: {why}", outcome::line(refusal, &at)),
+            Some((at, None)) => outcome::line(refusal, &at),
+            None => outcome::line(refusal, "the settings"),
         }
     }
 
@@ -102,7 +99,7 @@ impl Settings {
             for (count, entry) in (1..).zip(&list.entries) {
                 let mut lists = [List::none(), List::none()];
                 lists[place] = list.front(count);
-                let part = Settings { lists, root: "1".into(), options: 0, shift: 0 };
+                let part = Settings { lists, root: None, options: 0, shift: 0 };
                 if part.judge(&[], 0).is_err() {
                     let file = list.path.as_deref().unwrap_or(Path::new("")).display();
                     return Some((
@@ -116,15 +113,14 @@ impl Settings {
     }
 
     pub fn json(&self) -> Json {
-        let list = |list: &List| match &list.path {
-            None => Json::Null,
-            Some(path) => Json::Object(vec![
-                ("file", path.display().to_string().into()),
-                ("entries", (list.entries.len() as u64).into()),
-            ]),
+        let list = |list: &List| {
+            let path = list.path.as_deref();
+            let of = |path: &Path| vec![("file", path.into()), ("entries", list.entries.len().into())];
+            path.map(|path| Json::Object(of(path))).into()
         };
+        let root = self.root.as_deref().filter(|root| !root.is_empty());
         Json::Object(vec![
-            ("root", if self.root.is_empty() { Json::Null } else { self.root.as_str().into() }),
+            ("root", root.into()),
             ("keep", Json::List(self.kept().into_iter().map(Json::from).collect())),
             ("shift_days", Json::Number(self.shift.into())),
             ("study", list(&self.lists[0])),

@@ -3,8 +3,6 @@
 
 use std::io::{self, Write};
 
-use library::Request;
-
 use crate::actions::{Action, Actions};
 use crate::attributes::{self, Row, rows};
 use crate::json::Json;
@@ -51,7 +49,7 @@ impl Summary<'_> {
     pub fn print(&self, out: &mut impl Write) -> io::Result<()> {
         let Settings { options, shift, root, lists } = self.settings;
         let kept = self.settings.kept();
-        if !root.is_empty() {
+        if let Some(root) = root {
             writeln!(out, "root        {root}")?;
         }
         writeln!(
@@ -143,9 +141,10 @@ fn print_changes(option: &str, changed: &[(&Row, Actions)], out: &mut impl Write
     for (now, names) in groups {
         let shown = names[..names.len().min(NAMED)].join(", ");
         let more = if names.len() > NAMED { ", .. (all: corravisk explain)" } else { "" };
-        let what = match now.shifts_dates_alone() {
-            true => "dates shifted, times kept as they came".into(),
-            false => now.main().words(),
+        let what = if now.shifts_dates_alone() {
+            "dates shifted, times kept as they came".into()
+        } else {
+            now.main().words()
         };
         writeln!(out, "because of {option}, {what}: {} attributes: {shown}{more}", names.len())?;
     }
@@ -175,13 +174,11 @@ fn written(settings: &Settings, tag: u32, vr: [u8; 2]) -> Option<Vec<u8>> {
     let mut data = tag.rotate_left(16).to_le_bytes().to_vec();
     data.extend(vr);
     data.extend(if vrs::has_long_header(vr) { &[0; 6][..] } else { &[0; 2] });
-    let request = Request { root: b"1", ..settings.request(&data, 0) };
     let mut out = [0; 4_096];
-    let report = library::deidentify(&request, &mut [], &mut out);
-    let export = out.get(..report.length as usize).filter(|_| report.refusal == 0)?;
-    let answer = library::view(export, tag.into());
-    let part = export.get(answer.start as usize..(answer.start + answer.length) as usize)?;
-    (answer.found == 1).then(|| part.to_vec())
+    let accepted = library::deidentify(&settings.request(&data, 0), &mut [], &mut out).ok()?;
+    let export = &out[..accepted.length];
+    let part = library::view(export, tag.into()).ok()??;
+    Some(export[part].to_vec())
 }
 
 #[cfg(test)]

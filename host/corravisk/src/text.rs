@@ -44,6 +44,12 @@ pub fn is_printable(text: &[u8]) -> bool {
     text.iter().all(|byte| matches!(byte, 0x20..=0x7E))
 }
 
+/// A value as text, without the byte that makes its length even, if all of it can be printed.
+pub fn printable(value: &[u8]) -> Option<&str> {
+    let text = trimmed(value);
+    if is_printable(text) { str::from_utf8(text).ok() } else { None }
+}
+
 /// Without the one byte that makes its length even.
 pub fn trimmed(text: &[u8]) -> &[u8] {
     text.strip_suffix(b" ").or(text.strip_suffix(b"\0")).unwrap_or(text)

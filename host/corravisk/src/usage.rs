@@ -51,6 +51,8 @@ const DUMP: &str = "\
 corravisk dump IN
 
 Lists a data set, an element a line. A damaged one is listed up to its first fault.
+
+  --json             a report for programs
 ";
 
 const VIEW: &str = "\

@@ -1,6 +1,6 @@
 //! The library's stack: a run eight items deep, with a UID, a date and a list value at every depth, in a thread with little of it.
 
-use library::{Request, deidentify};
+use library::{Accepted, Request, deidentify};
 use std::thread;
 
 /// The figure to keep is 256 KiB. Half of that is given here, to the thread and its own frames included.
@@ -43,11 +43,12 @@ fn a_run_needs_little_stack() {
             Request { data: &data, options: 2, shift: -1, root: b"1.9", study: STUDY, site: b"", used: 0 };
         let mut ledger = vec![0x55; 64 * 1024];
         let mut out = vec![0x55; 64 * 1024];
-        let report = deidentify(&request, &mut ledger, &mut out);
-        (report, out.windows(6).filter(|part| part == b"SUBJ7 ").count())
+        let outcome = deidentify(&request, &mut ledger, &mut out);
+        (outcome, out.windows(6).filter(|part| part == b"SUBJ7 ").count())
     };
-    let (report, listed) =
+    let (outcome, listed) =
         thread::Builder::new().stack_size(STACK).spawn(run).expect("a thread").join().expect("no fault");
-    assert_eq!((report.refusal, report.renamed, report.replaced, report.kept), (0, 9, 18, 8));
+    let Accepted { kept, replaced, renamed, .. } = outcome.expect("accepted");
+    assert_eq!((renamed, replaced, kept), (9, 18, 8));
     assert_eq!(listed, 9, "a list value at every depth");
 }

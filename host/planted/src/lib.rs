@@ -1,6 +1,14 @@
 //! The second program with small faults planted in it, one at a time (`faults.txt`), to show that the
 //! comparison can fail. The source is the second program's own, copied when this is built (`build.rs`).
-#![allow(clippy::all, dead_code, unused_parens, unused_variables)]
+#![forbid(unsafe_code)]
+#![allow(
+    clippy::all,
+    clippy::pedantic,
+    dead_code,
+    unused_parens,
+    unused_variables,
+    reason = "faults are put in as text, and leave code behind that nobody would write"
+)]
 
 use std::sync::atomic::{AtomicUsize, Ordering};
 

@@ -39,9 +39,9 @@ pub enum ValueTreatment {
     Dummy,
     /// The dates of a DA or DT are moved.
     Shift,
-    /// The UIDs of a UI get new names.
+    /// The UIDs of a UI give way to new UIDs.
     Rename,
-    /// UIDs would get new names, but the element is no UI: refusal 11 (W9).
+    /// UIDs would give way to new UIDs, but the element is no UI: refusal 11 (W9).
     CannotRename,
 }
 

@@ -271,6 +271,7 @@ impl<'r> Export<'r> {
 
 /// Shows the top-level element with this tag, once the whole shape is known to be sound (V1). Any number may be asked
 /// for; one that is no tag of an element is absent (V2).
+#[must_use]
 pub fn view(data: &[u8], tag: u64) -> View {
     let mut finder = Finder { tag, part: None };
     if let Err(refusal) = layout::walk(data, &mut finder) {

@@ -1,6 +1,7 @@
 //! Table E.1-1 of PS3.15, edition 2023b: which letter a tag gets (document 01, "Which action an element gets").
 //!
-//! The printed table is compiled in as a text file and read once. Columns are found by their headings.
+//! The transcription of the printed table, the same from which the proved station's rows are made, is compiled in as a
+//! text file and read once. Columns are found by their headings.
 
 use std::sync::OnceLock;
 

@@ -1,12 +1,9 @@
--- `abi::corravisk_view` meets its contract. Assumes nothing.
+-- Made by tools/make-proofs from tools/answers/abi/corravisk_view: `abi::corravisk_view` meets its contract. Assumes nothing.
+-- Do not edit: `tools/make-proofs --check` compares. Sums of the answers and of what follows: a4dea7b1ce777edd 2c5950a47e083912.
 use mathlib.Core.Path.{_≡_, sym, _∙_}
-use native.Mathlib.Omega.{arith}
 use borrow.Author.Needs.{needs}
 use Rattle.abi.proofs.corravisk_view.Statement.{statement}
 use Rattle.abi.proofs.corravisk_view.Tie as tie
-use Rattle.abi.proofs.corravisk_view.Reads as reads
-use Rattle.abi.proofs.corravisk_view.Lts as lts
-use Rattle.view.proofs.answer_to.Reads as answer-to-reads
 
 answer-to-requires : tie.Need-answer-to-requires
 answer-to-requires c κs = search needs

@@ -1,4 +1,5 @@
--- `abi::numbers_of` meets its contract. Assumes nothing.
+-- Made by tools/make-proofs from tools/answers/abi/numbers_of: `abi::numbers_of` meets its contract. Assumes nothing.
+-- Do not edit: `tools/make-proofs --check` compares. Sums of the answers and of what follows: ff3b6d907fe0b4c2 3c12076e6ac7348c.
 use mathlib.Core.Path.{_≡_, refl}
 use borrow.Author.Needs.{needs}
 use Rattle.abi.proofs.numbers_of.Statement.{statement}

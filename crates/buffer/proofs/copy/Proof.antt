@@ -1,15 +1,13 @@
--- `buffer::copy` meets its contract. Assumes nothing.
+-- Made by tools/make-proofs from tools/answers/buffer/copy: `buffer::copy` meets its contract. Assumes nothing.
+-- Do not edit: `tools/make-proofs --check` compares. Sums of the answers and of what follows: e5fe2a2295906bc8 4de8d93b034343d2.
 use Rattle.buffer.proofs.Laws.{laid-none, length-laid, block-more}
-use lib.ListN.{length, take, drop, getD, set, replicate}
-use Prim.Native.Nat.{ℕ, _≤_, _<_, _+_, _-_, suc}
-use mathlib.Core.Path.{_≡_, refl, sym, ap, _∙_}
+use lib.ListN.{length, take, drop, getD, set}
+use Prim.Native.Nat.{_≤_, _+_, _-_}
+use mathlib.Core.Path.{_≡_, sym, ap, _∙_}
 use Rattle.buffer.specs.Buffer.{laid}
-use borrow.Author.Needs.{needs}
 use native.Mathlib.Omega.{arith}
 use Rattle.buffer.proofs.copy.Statement.{statement}
 use Rattle.buffer.proofs.copy.Tie as tie
-use Rattle.buffer.proofs.copy.Reads as reads
-use Rattle.buffer.proofs.copy.Lts as lts
 
 abbrev Inv-loop : tie.InvT-loop
 Inv-loop s from n out₀ pos i₀ out i = (i ≤ n) × (out ≡ laid out₀ pos (take i (drop from s)))

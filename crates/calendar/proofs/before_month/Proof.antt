@@ -1,9 +1,10 @@
--- `calendar::before_month` meets its contract: the formula of `Closed`. Assumes nothing.
+-- Made by tools/make-proofs from tools/answers/calendar/before_month: `calendar::before_month` meets its contract: the formula of `Closed`. Assumes nothing.
+-- Do not edit: `tools/make-proofs --check` compares. Sums of the answers and of what follows: 568f0a5e8bfadaa9 f79257dcefa5aa14.
 use mathlib.Core.Path.{refl, sym, _∙_}
 use borrow.Author.Tests.{lt-ltb, le-ltb}
 use Rattle.calendar.proofs.Closed.{before-month}
-use native.Mathlib.Omega.{arith}
 use borrow.Author.Needs.{needs}
+use native.Mathlib.Omega.{arith}
 use Rattle.calendar.proofs.before_month.Statement.{statement}
 use Rattle.calendar.proofs.before_month.Tie as tie
 
@@ -30,11 +31,9 @@ add-result c = search needs
 
 returns-2 : tie.Need-returns-2
 returns-2 c =
-    let at-if1 = c .before .before in
-    let at-start = at-if1 .before in
     rw (
-      before-month (at-start .args .y) (at-start .args .m) (at-start .pre .1),
-      le-ltb _ _ (at-if1 .if1 .left),
+      before-month (c .before .before .before .args .y) (c .before .before .before .args .m) (c .before .before .before .pre .1),
+      le-ltb _ _ (c .before .before .if1 .left),
       sym
           (c .before .is-leap .ensures) ∙ c .if2 .taken,
     ) refl
@@ -47,11 +46,9 @@ sub-result-3 c = search needs
 
 returns-3 : tie.Need-returns-3
 returns-3 c =
-    let at-if1 = c .before .before in
-    let at-start = at-if1 .before in
     rw (
-      before-month (at-start .args .y) (at-start .args .m) (at-start .pre .1),
-      le-ltb _ _ (at-if1 .if1 .left),
+      before-month (c .before .before .before .args .y) (c .before .before .before .args .m) (c .before .before .before .pre .1),
+      le-ltb _ _ (c .before .before .if1 .left),
       sym
           (c .before .is-leap .ensures) ∙ c .if2 .left,
     ) (omega arith)

@@ -1,4 +1,5 @@
--- `calendar::before_year` meets its contract: the formula of `Closed`. Assumes nothing.
+-- Made by tools/make-proofs from tools/answers/calendar/before_year: `calendar::before_year` meets its contract: the formula of `Closed`. Assumes nothing.
+-- Do not edit: `tools/make-proofs --check` compares. Sums of the answers and of what follows: 143a9810fb29b761 9bae959bfda1bea2.
 use mathlib.Core.Path.{sym}
 use Rattle.calendar.proofs.Closed.{before-year}
 use borrow.Author.Needs.{needs}

@@ -1,5 +1,6 @@
--- `calendar::date_fault` meets its contract. The loop's invariant is `Judging`: the value is refused exactly where one of the
+-- Made by tools/make-proofs from tools/answers/calendar/date_fault: `calendar::date_fault` meets its contract. The loop's invariant is `Judging`: the value is refused exactly where one of the
 -- pieces left is. The measure: what is left of the value. Assumes nothing.
+-- Do not edit: `tools/make-proofs --check` compares. Sums of the answers and of what follows: 0ea9ccd8a627f489 e5f1a1a829cb8ddd.
 use mathlib.Core.Path.{ap}
 use Prim.Native.Nat.{_-_}
 use mir.Syntax.{w32}
@@ -19,17 +20,13 @@ abbrev μ-loop : tie.MeasureT-loop
 μ-loop da s from to days stop a₀ a = stop - a
 
 returns : tie.Need-returns Inv-loop μ-loop
-returns c =
-    let at-start = c .before .before in
-    let a = at-start .args in judge-nothing (a .da) (a .s .now) (a .from) (a .to) (a .days) (c .if1 .taken)
+returns c = let a = c .before .before .args in judge-nothing (a .da) (a .s .now) (a .from) (a .to) (a .days) (c .if1 .taken)
 
 dates-end-requires : tie.Need-dates-end-requires Inv-loop μ-loop
 dates-end-requires c κs = search needs
 
 loop-holds : tie.Need-loop-holds Inv-loop μ-loop
-loop-holds c =
-    let at-start = c .before .before .before in
-    judge-start _ _ _ _ _ (at-start .pre .1) (omega (arith, at-start .pre .0, c .before .if1 .left)) (c .dates-end .ensures)
+loop-holds c = judge-start _ _ _ _ _ (c .before .before .before .pre .1) (omega (arith, c .before .before .before .pre .0, c .before .if1 .left)) (c .dates-end .ensures)
 
 piece-end-requires : tie.Need-piece-end-requires Inv-loop μ-loop
 piece-end-requires c κs = let g = c .loop .inv in omega (arith, g .hi, g .upto, g .in-s)
@@ -45,47 +42,32 @@ enum-told c = search needs
 
 returns-2 : tie.Need-returns-2 Inv-loop μ-loop
 returns-2 c =
-    let at-moved-date = c .before .before in
-    let at-piece-end = at-moved-date .before in
-    let at-loop = at-piece-end .before in
-    let at-start = at-loop .before .before .before .before in
-    judge-bad (at-loop .loop .inv) (at-piece-end .piece-end .ensures) (at-moved-date .moved-date .ensures)
-    (ap dateIn (c .enum-told .given .1)) (toZ-ofZ (at-start .fits .days))
+    judge-bad (c .before .before .before .before .loop .inv) (c .before .before .before .piece-end .ensures) (c .before .before .moved-date .ensures)
+    (ap dateIn (c .enum-told .given .1)) (toZ-ofZ (c .before .before .before .before .before .before .before .before .fits .days))
 
 enum-told-2 : tie.Need-enum-told-2 Inv-loop μ-loop
 enum-told-2 c = search needs
 
 returns-3 : tie.Need-returns-3 Inv-loop μ-loop
 returns-3 c =
-    let at-moved-date = c .before .before .before in
-    let at-piece-end = at-moved-date .before in
-    let at-loop = at-piece-end .before in
-    let at-start = at-loop .before .before .before .before in
-    judge-last (at-loop .loop .inv) (at-piece-end .piece-end .ensures) (at-moved-date .moved-date .ensures)
-    (ap dateIn (c .before .enum-told2 .given .1)) (c .if2 .taken) (toZ-ofZ (at-start .fits .days))
+    judge-last (c .before .before .before .before .before .loop .inv) (c .before .before .before .before .piece-end .ensures) (c .before .before .before .moved-date .ensures)
+    (ap dateIn (c .before .enum-told2 .given .1)) (c .if2 .taken) (toZ-ofZ (c .before .before .before .before .before .before .before .before .before .fits .days))
 
 add-a : tie.Need-add-a Inv-loop μ-loop
 add-a c =
-    let at-piece-end = c .before .before .before .before in
-    let at-loop = at-piece-end .before in
-    let g = at-loop .loop .inv in
-    let u = judge-cut g (at-piece-end .piece-end .ensures) in
+    let g = c .before .before .before .before .before .loop .inv in
+    let u = judge-cut g (c .before .before .before .before .piece-end .ensures) in
     omega (arith, u .upto, g .upto, g .in-s, c .if2 .left)
 
 loop-less : tie.Need-loop-less Inv-loop μ-loop
 loop-less c =
-    let at-piece-end = c .before .before .before .before in
-    let at-loop = at-piece-end .before in
-    let u = judge-cut (at-loop .loop .inv) (at-piece-end .piece-end .ensures) in
+    let u = judge-cut (c .before .before .before .before .before .loop .inv) (c .before .before .before .before .piece-end .ensures) in
     omega (arith, u .from, u .upto, c .if2 .left)
 
 loop-again : tie.Need-loop-again Inv-loop μ-loop
 loop-again c =
-    let at-moved-date = c .before .before .before in
-    let at-piece-end = at-moved-date .before in
-    let at-loop = at-piece-end .before in
-    let u = judge-cut (at-loop .loop .inv) (at-piece-end .piece-end .ensures) in
-    judge-on (at-loop .loop .inv) (at-piece-end .piece-end .ensures) (at-moved-date .moved-date .ensures)
+    let u = judge-cut (c .before .before .before .before .before .loop .inv) (c .before .before .before .before .piece-end .ensures) in
+    judge-on (c .before .before .before .before .before .loop .inv) (c .before .before .before .before .piece-end .ensures) (c .before .before .before .moved-date .ensures)
     (ap dateIn (c .before .enum-told2 .given .1)) (omega (arith, u .upto, c .if2 .left))
 
 pub date-fault-spec : {M : Type 1} → statement M

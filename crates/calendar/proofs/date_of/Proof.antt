@@ -1,12 +1,13 @@
--- `calendar::date_of` meets its contract: the year that has the day, and the month that has what is left of it. Assumes nothing.
+-- Made by tools/make-proofs from tools/answers/calendar/date_of: `calendar::date_of` meets its contract: the year that has the day, and the month that has what is left of it. Assumes nothing.
+-- Do not edit: `tools/make-proofs --check` compares. Sums of the answers and of what follows: 12a176357b603964 4427ea126a30187d.
 use mathlib.Core.Path.{ap}
 use Prim.Native.Nat.{_+_, _-_}
 use Rattle.calendar.specs.Dates.{lastYear, yearLen}
-use Rattle.calendar.proofs.SpansLaws.{before-one, within-below}
+use Rattle.calendar.proofs.SpansLaws.{before-one, inSpan-below}
 use Rattle.calendar.proofs.Closed.{month-in}
 use Rattle.calendar.proofs.DatesLaws.{date-within}
-use native.Mathlib.Omega.{arith}
 use borrow.Author.Needs.{needs}
+use native.Mathlib.Omega.{arith}
 use Rattle.calendar.proofs.date_of.Statement.{statement}
 use Rattle.calendar.proofs.date_of.Tie as tie
 
@@ -16,7 +17,7 @@ year-of-requires c κs = search needs
 before-year-requires : tie.Need-before-year-requires
 before-year-requires c κs =
     let y = c .year-of .result in
-    omega (arith, within-below yearLen (c .before .args .n) y (lastYear + 1) (c .year-of .ensures .0) (c .before .pre .1))
+    omega (arith, inSpan-below yearLen (c .before .args .n) y (lastYear + 1) (c .year-of .ensures .0) (c .before .pre .1))
 
 sub-i : tie.Need-sub-i
 sub-i c = search needs
@@ -28,11 +29,9 @@ month-of-requires c κs =
 
 before-month-requires : tie.Need-before-month-requires
 before-month-requires c κs =
-    let at-year-of = c .before .before in
-    let at-start = at-year-of .before in
-    let y = at-year-of .year-of .result in
-    let w = at-year-of .year-of .ensures in
-    let i = at-start .args .n - c .before .before-year .result in
+    let y = c .before .before .year-of .result in
+    let w = c .before .before .year-of .ensures in
+    let i = c .before .before .before .args .n - c .before .before-year .result in
     omega (
       arith,
       month-in y i (c .month-of .result) (omega (arith, w .0, c .before .before-year .ensures))
@@ -45,13 +44,10 @@ sub-t6 c = search needs
 
 returns : tie.Need-returns
 returns c =
-    let at-before-year = c .before .before in
-    let at-year-of = at-before-year .before in
-    let at-start = at-year-of .before in
-    let n = at-start .args .n in
-    date-within n (n - at-before-year .before-year .result) _ (at-start .pre .1) (at-year-of .year-of .ensures)
-    (ap (λ k. n - k) (at-before-year .before-year .ensures)) (c .before .month-of .ensures)
-    (ap (λ k. n - at-before-year .before-year .result - k) (c .before-month .ensures))
+    let n = c .before .before .before .before .args .n in
+    date-within n (n - c .before .before .before-year .result) _ (c .before .before .before .before .pre .1) (c .before .before .before .year-of .ensures)
+    (ap (λ k. n - k) (c .before .before .before-year .ensures)) (c .before .month-of .ensures)
+    (ap (λ k. n - c .before .before .before-year .result - k) (c .before-month .ensures))
 
 pub date-of-spec : {M : Type 1} → statement M
 date-of-spec =

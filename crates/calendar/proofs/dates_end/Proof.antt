@@ -1,7 +1,8 @@
--- `calendar::dates_end` meets its contract: one law for each way through it. Assumes nothing.
+-- Made by tools/make-proofs from tools/answers/calendar/dates_end: `calendar::dates_end` meets its contract: one law for each way through it. Assumes nothing.
+-- Do not edit: `tools/make-proofs --check` compares. Sums of the answers and of what follows: 73fdacc5c89098c0 87cd185f49294a82.
 use Rattle.calendar.proofs.Walks.{ends-pad, ends-text, ends-odd, ends-none, ends-dt}
-use native.Mathlib.Omega.{arith}
 use borrow.Author.Needs.{needs}
+use native.Mathlib.Omega.{arith}
 use Rattle.calendar.proofs.dates_end.Statement.{statement}
 use Rattle.calendar.proofs.dates_end.Tie as tie
 
@@ -19,33 +20,23 @@ sub-result c = search needs
 
 returns : tie.Need-returns
 returns c =
-    let at-if3 = c .before .before in
-    let at-if2 = at-if3 .before in
-    let at-if1 = at-if2 .before in
-    let at-start = at-if1 .before in
-    let a = at-start .args in ends-pad (a .da) (a .s .now) (a .from) (a .to) (at-start .pre .1) (at-if1 .if1 .taken) (at-if2 .if2 .taken)
-    (at-if3 .if3 .taken) (c .if4 .taken)
+    let a = c .before .before .before .before .before .args in ends-pad (a .da) (a .s .now) (a .from) (a .to) (c .before .before .before .before .before .pre .1) (c .before .before .before .before .if1 .taken) (c .before .before .before .if2 .taken)
+    (c .before .before .if3 .taken) (c .if4 .taken)
 
 returns-2 : tie.Need-returns-2
 returns-2 c =
-    let at-if2 = c .before .before .before in
-    let at-if1 = at-if2 .before in
-    let at-start = at-if1 .before in
-    let a = at-start .args in ends-text (a .da) (a .s .now) (a .from) (a .to) (at-start .pre .1) (at-if1 .if1 .taken) (at-if2 .if2 .taken)
+    let a = c .before .before .before .before .before .args in ends-text (a .da) (a .s .now) (a .from) (a .to) (c .before .before .before .before .before .pre .1) (c .before .before .before .before .if1 .taken) (c .before .before .before .if2 .taken)
     (c .if4 .left)
 
 returns-3 : tie.Need-returns-3
 returns-3 c =
-    let at-if1 = c .before .before in
-    let at-start = at-if1 .before in
-    let a = at-start .args in ends-odd (a .da) (a .s .now) (a .from) (a .to) (at-start .pre .1) (at-start .pre .0) (at-if1 .if1 .taken)
+    let a = c .before .before .before .args in ends-odd (a .da) (a .s .now) (a .from) (a .to) (c .before .before .before .pre .1) (c .before .before .before .pre .0) (c .before .before .if1 .taken)
     (c .if3 .left)
 
 returns-4 : tie.Need-returns-4
 returns-4 c =
-    let at-start = c .before .before in
-    let a = at-start .args in ends-none (a .da) (a .s .now) (a .from) (a .to) (at-start .pre .1)
-    (omega (arith, at-start .pre .0, c .if2 .left))
+    let a = c .before .before .args in ends-none (a .da) (a .s .now) (a .from) (a .to) (c .before .before .pre .1)
+    (omega (arith, c .before .before .pre .0, c .if2 .left))
 
 returns-5 : tie.Need-returns-5
 returns-5 c =

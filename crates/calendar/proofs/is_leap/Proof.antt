@@ -1,4 +1,5 @@
--- `calendar::is_leap` meets its contract: the tests of the rule, in its order. Assumes nothing.
+-- Made by tools/make-proofs from tools/answers/calendar/is_leap: `calendar::is_leap` meets its contract: the tests of the rule, in its order. Assumes nothing.
+-- Do not edit: `tools/make-proofs --check` compares. Sums of the answers and of what follows: 0bc6cb84f748e45b e32a863812779229.
 use borrow.Author.Tests.{eq-eqb, ne-eqb}
 use Rattle.calendar.specs.Dates.{leap}
 use Rattle.calendar.proofs.is_leap.Statement.{statement}

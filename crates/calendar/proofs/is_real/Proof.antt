@@ -1,4 +1,5 @@
--- `calendar::is_real` meets its contract: the tests of `real`, in its order. Assumes nothing.
+-- Made by tools/make-proofs from tools/answers/calendar/is_real: `calendar::is_real` meets its contract: the tests of `real`, in its order. Assumes nothing.
+-- Do not edit: `tools/make-proofs --check` compares. Sums of the answers and of what follows: 788663eb9f7fd4e7 32651393595371e5.
 use mathlib.Core.Path.{refl}
 use borrow.Author.Tests.{le-leb, lt-leb}
 use Rattle.calendar.specs.Dates.{real}
@@ -12,27 +13,18 @@ returns c = simp (lt-leb _ _ (c .if1 .taken))
 
 returns-2 : tie.Need-returns-2
 unfolding real
-returns-2 c =
-    let at-if1 = c .before .before in
-    simp (le-leb _ _ (at-if1 .if1 .left), lt-leb _ _ (c .if2 .taken))
+returns-2 c = simp (le-leb _ _ (c .before .before .if1 .left), lt-leb _ _ (c .if2 .taken))
 
 returns-3 : tie.Need-returns-3
 unfolding real
-returns-3 c =
-    let at-if2 = c .before .before in
-    let at-if1 = at-if2 .before .before in
-    simp (le-leb _ _ (at-if1 .if1 .left), le-leb _ _ (at-if2 .if2 .left), lt-leb _ _ (c .if3 .taken))
+returns-3 c = simp (le-leb _ _ (c .before .before .before .before .if1 .left), le-leb _ _ (c .before .before .if2 .left), lt-leb _ _ (c .if3 .taken))
 
 month-len-requires : tie.Need-month-len-requires
 month-len-requires c κs = search needs
 
 returns-4 : tie.Need-returns-4
 unfolding real
-returns-4 c =
-    let at-if3 = c .before .before in
-    let at-if2 = at-if3 .before .before in
-    let at-if1 = at-if2 .before .before in
-    rw (le-leb _ _ (at-if1 .if1 .left), le-leb _ _ (at-if2 .if2 .left), le-leb _ _ (at-if3 .if3 .left), c .before .month-len .ensures) refl
+returns-4 c = rw (le-leb _ _ (c .before .before .before .before .before .before .if1 .left), le-leb _ _ (c .before .before .before .before .if2 .left), le-leb _ _ (c .before .before .if3 .left), c .before .month-len .ensures) refl
 
 pub is-real-spec : {M : Type 1} → statement M
 is-real-spec = tie.close (tie.spec returns returns-2 returns-3 month-len-requires returns-4)

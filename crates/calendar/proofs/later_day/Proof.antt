@@ -1,8 +1,9 @@
--- `calendar::later_day` meets its contract: by the sign of the shift. Assumes nothing.
+-- Made by tools/make-proofs from tools/answers/calendar/later_day: `calendar::later_day` meets its contract: by the sign of the shift. Assumes nothing.
+-- Do not edit: `tools/make-proofs --check` compares. Sums of the answers and of what follows: e0d8bf10d791076d 18518db7dc28ee11.
 use mathlib.Core.Path.{refl}
 use Rattle.calendar.proofs.Signs.{is-neg, is-pos, minus, there, back}
-use native.Mathlib.Omega.{arith}
 use borrow.Author.Needs.{needs}
+use native.Mathlib.Omega.{arith}
 use Rattle.calendar.proofs.later_day.Statement.{statement}
 use Rattle.calendar.proofs.later_day.Tie as tie
 
@@ -24,14 +25,12 @@ sub-result c = search needs
 
 returns : tie.Need-returns
 returns c =
-    let at-start = c .before .before in
-    let n = is-neg _ (at-start .fits .days) (c .before .if1 .taken) in
+    let n = is-neg _ (c .before .before .fits .days) (c .before .if1 .taken) in
     rw (n .1, back _ (n .2), minus, there _ (n .2)) refl
 
 returns-2 : tie.Need-returns-2
 returns-2 c =
-    let at-start = c .before .before in
-    let n = is-neg _ (at-start .fits .days) (c .before .if1 .taken) in
+    let n = is-neg _ (c .before .before .fits .days) (c .before .if1 .taken) in
     let l = rw (n .1, back _ (n .2), minus, there _ (n .2)) at (c .if2 .left) in
     rw (n .1) (omega (arith, l))
 

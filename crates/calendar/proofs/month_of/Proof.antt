@@ -1,5 +1,6 @@
--- `calendar::month_of` meets its contract. The loop's invariant: the month begins before the day. The measure: the months left.
+-- Made by tools/make-proofs from tools/answers/calendar/month_of: `calendar::month_of` meets its contract. The loop's invariant: the month begins before the day. The measure: the months left.
 -- Assumes nothing.
+-- Do not edit: `tools/make-proofs --check` compares. Sums of the answers and of what follows: fce311624d4a1d19 c16bc15a63f89029.
 use Prim.Native.Nat.{_<_, _+_, _-_, _≤_, _/_}
 use Rattle.calendar.specs.Spans.{before}
 use Rattle.calendar.specs.Dates.{monthLen}
@@ -33,24 +34,16 @@ before-month-requires c κs =
     omega (arith, month-below (c .before .args .y) (c .before .args .n) (c .loop .m) (c .before .pre .1) (c .loop .inv .1))
 
 add-m-2 : tie.Need-add-m-2 Inv-loop μ-loop
-add-m-2 c =
-    let at-loop = c .before .before in
-    let at-start = at-loop .before in
-    omega (arith, month-below (at-start .args .y) (at-start .args .n) (at-loop .loop .m) (at-start .pre .1) (at-loop .loop .inv .1))
+add-m-2 c = omega (arith, month-below (c .before .before .before .args .y) (c .before .before .before .args .n) (c .before .before .loop .m) (c .before .before .before .pre .1) (c .before .before .loop .inv .1))
 
 loop-less : tie.Need-loop-less Inv-loop μ-loop
-loop-less c =
-    let at-loop = c .before .before in
-    let at-start = at-loop .before in
-    omega (arith, month-below (at-start .args .y) (at-start .args .n) (at-loop .loop .m) (at-start .pre .1) (at-loop .loop .inv .1))
+loop-less c = omega (arith, month-below (c .before .before .before .args .y) (c .before .before .before .args .n) (c .before .before .loop .m) (c .before .before .before .pre .1) (c .before .before .loop .inv .1))
 
 loop-again : tie.Need-loop-again Inv-loop μ-loop
 loop-again c = (omega arith, omega (arith, c .before .before-month .ensures))
 
 returns : tie.Need-returns Inv-loop μ-loop
-returns c =
-    let at-loop = c .before .before in
-    (at-loop .loop .inv .1, omega (arith, c .before .before-month .ensures))
+returns c = (c .before .before .loop .inv .1, omega (arith, c .before .before-month .ensures))
 
 pub month-of-spec : {M : Type 1} → statement M
 month-of-spec =

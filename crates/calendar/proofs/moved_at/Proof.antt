@@ -1,11 +1,12 @@
--- `calendar::moved_at` meets its contract: the four pairs of digits, one after another, and the shift. Assumes nothing.
+-- Made by tools/make-proofs from tools/answers/calendar/moved_at: `calendar::moved_at` meets its contract: the four pairs of digits, one after another, and the shift. Assumes nothing.
+-- Do not edit: `tools/make-proofs --check` compares. Sums of the answers and of what follows: e427311c05509ef9 dfc59e9c99e627d1.
 use mathlib.Core.Path.{refl, sym, ap, _∙_}
 use mir.Facts.{toZ-ofZ}
 use Rattle.calendar.specs.Dates.{moved}
 use Rattle.calendar.specs.Text.{dateAt, numberIn}
 use Rattle.calendar.proofs.TextLaws.{text-two}
-use native.Mathlib.Omega.{arith}
 use borrow.Author.Needs.{needs}
+use native.Mathlib.Omega.{arith}
 use Rattle.calendar.proofs.moved_at.Statement.{statement}
 use Rattle.calendar.proofs.moved_at.Tie as tie
 
@@ -29,9 +30,7 @@ enum-told c = search needs
 
 returns : tie.Need-returns
 unfolding dateAt
-returns c =
-    let at-two-digits = c .before .before in
-    rw (sym (at-two-digits .two-digits .ensures) ∙ ap numberIn (c .enum-told .given .1)) refl
+returns c = rw (sym (c .before .before .two-digits .ensures) ∙ ap numberIn (c .enum-told .given .1)) refl
 
 add-two-digits-2 : tie.Need-add-two-digits-2
 add-two-digits-2 c = search needs
@@ -57,11 +56,8 @@ enum-told-2 c = search needs
 returns-2 : tie.Need-returns-2
 unfolding dateAt
 returns-2 c =
-    let at-two-digits2 = c .before .before in
-    let at-c = at-two-digits2 .before .before .before .before in
-    let at-two-digits = at-c .before .before in
-    let c₁ = sym (at-two-digits .two-digits .ensures) ∙ ap numberIn (at-c .c .given .1) in
-    let c₂ = sym (at-two-digits2 .two-digits2 .ensures) ∙ ap numberIn (c .enum-told2 .given .1) in
+    let c₁ = sym (c .before .before .before .before .before .before .before .before .two-digits .ensures) ∙ ap numberIn (c .before .before .before .before .before .before .c .given .1) in
+    let c₂ = sym (c .before .before .two-digits2 .ensures) ∙ ap numberIn (c .enum-told2 .given .1) in
     rw (c₁, c₂) refl
 
 add-two-digits-4 : tie.Need-add-two-digits-4
@@ -88,14 +84,9 @@ enum-told-3 c = search needs
 returns-3 : tie.Need-returns-3
 unfolding dateAt
 returns-3 c =
-    let at-two-digits3 = c .before .before in
-    let at-y = at-two-digits3 .before .before .before .before in
-    let at-two-digits2 = at-y .before .before in
-    let at-c = at-two-digits2 .before .before .before .before in
-    let at-two-digits = at-c .before .before in
-    let c₁ = sym (at-two-digits .two-digits .ensures) ∙ ap numberIn (at-c .c .given .1) in
-    let c₂ = sym (at-two-digits2 .two-digits2 .ensures) ∙ ap numberIn (at-y .y .given .1) in
-    let c₃ = sym (at-two-digits3 .two-digits3 .ensures) ∙ ap numberIn (c .enum-told3 .given .1) in
+    let c₁ = sym (c .before .before .before .before .before .before .before .before .before .before .before .before .before .before .two-digits .ensures) ∙ ap numberIn (c .before .before .before .before .before .before .before .before .before .before .before .before .c .given .1) in
+    let c₂ = sym (c .before .before .before .before .before .before .before .before .two-digits2 .ensures) ∙ ap numberIn (c .before .before .before .before .before .before .y .given .1) in
+    let c₃ = sym (c .before .before .two-digits3 .ensures) ∙ ap numberIn (c .enum-told3 .given .1) in
     rw (c₁, c₂, c₃) refl
 
 add-two-digits-6 : tie.Need-add-two-digits-6
@@ -122,36 +113,21 @@ enum-told-4 c = search needs
 returns-4 : tie.Need-returns-4
 unfolding dateAt
 returns-4 c =
-    let at-two-digits4 = c .before .before in
-    let at-m = at-two-digits4 .before .before .before .before in
-    let at-two-digits3 = at-m .before .before in
-    let at-y = at-two-digits3 .before .before .before .before in
-    let at-two-digits2 = at-y .before .before in
-    let at-c = at-two-digits2 .before .before .before .before in
-    let at-two-digits = at-c .before .before in
-    let c₁ = sym (at-two-digits .two-digits .ensures) ∙ ap numberIn (at-c .c .given .1) in
-    let c₂ = sym (at-two-digits2 .two-digits2 .ensures) ∙ ap numberIn (at-y .y .given .1) in
-    let c₃ = sym (at-two-digits3 .two-digits3 .ensures) ∙ ap numberIn (at-m .m .given .1) in
-    let c₄ = sym (at-two-digits4 .two-digits4 .ensures) ∙ ap numberIn (c .enum-told4 .given .1) in
+    let c₁ = sym (c .before .before .before .before .before .before .before .before .before .before .before .before .before .before .before .before .before .before .before .before .two-digits .ensures) ∙ ap numberIn (c .before .before .before .before .before .before .before .before .before .before .before .before .before .before .before .before .before .before .c .given .1) in
+    let c₂ = sym (c .before .before .before .before .before .before .before .before .before .before .before .before .before .before .two-digits2 .ensures) ∙ ap numberIn (c .before .before .before .before .before .before .before .before .before .before .before .before .y .given .1) in
+    let c₃ = sym (c .before .before .before .before .before .before .before .before .two-digits3 .ensures) ∙ ap numberIn (c .before .before .before .before .before .before .m .given .1) in
+    let c₄ = sym (c .before .before .two-digits4 .ensures) ∙ ap numberIn (c .enum-told4 .given .1) in
     rw (c₁, c₂, c₃, c₄) refl
 
 mul-t25 : tie.Need-mul-t25
 mul-t25 c =
-    let at-c =
-    c .before .before .before .before .before .before .before .before .before .before .before .before .before .before
-    .before .before .before .before .before in
-    let at-two-digits = at-c .before .before in
-    let c₁ = sym (at-two-digits .two-digits .ensures) ∙ ap numberIn (at-c .c .given .1) in
+    let c₁ = sym (c .before .before .before .before .before .before .before .before .before .before .before .before .before .before .before .before .before .before .before .before .before .two-digits .ensures) ∙ ap numberIn (c .before .before .before .before .before .before .before .before .before .before .before .before .before .before .before .before .before .before .before .c .given .1) in
     omega (arith, text-two _ _ _ c₁ .small)
 
 add-t26 : tie.Need-add-t26
 add-t26 c =
-    let at-y = c .before .before .before .before .before .before .before .before .before .before .before .before .before in
-    let at-two-digits2 = at-y .before .before in
-    let at-c = at-two-digits2 .before .before .before .before in
-    let at-two-digits = at-c .before .before in
-    let c₁ = sym (at-two-digits .two-digits .ensures) ∙ ap numberIn (at-c .c .given .1) in
-    let c₂ = sym (at-two-digits2 .two-digits2 .ensures) ∙ ap numberIn (at-y .y .given .1) in
+    let c₁ = sym (c .before .before .before .before .before .before .before .before .before .before .before .before .before .before .before .before .before .before .before .before .before .two-digits .ensures) ∙ ap numberIn (c .before .before .before .before .before .before .before .before .before .before .before .before .before .before .before .before .before .before .before .c .given .1) in
+    let c₂ = sym (c .before .before .before .before .before .before .before .before .before .before .before .before .before .before .before .two-digits2 .ensures) ∙ ap numberIn (c .before .before .before .before .before .before .before .before .before .before .before .before .before .y .given .1) in
     omega (arith, text-two _ _ _ c₁ .small, text-two _ _ _ c₂ .small)
 
 shifted-requires : tie.Need-shifted-requires
@@ -160,20 +136,11 @@ shifted-requires c κs = search needs
 returns-5 : tie.Need-returns-5
 unfolding dateAt
 returns-5 c =
-    let at-d = c .before .before in
-    let at-two-digits4 = at-d .before .before in
-    let at-m = at-two-digits4 .before .before .before .before in
-    let at-two-digits3 = at-m .before .before in
-    let at-y = at-two-digits3 .before .before .before .before in
-    let at-two-digits2 = at-y .before .before in
-    let at-c = at-two-digits2 .before .before .before .before in
-    let at-two-digits = at-c .before .before in
-    let at-start = at-two-digits .before .before .before .before in
-    let c₁ = sym (at-two-digits .two-digits .ensures) ∙ ap numberIn (at-c .c .given .1) in
-    let c₂ = sym (at-two-digits2 .two-digits2 .ensures) ∙ ap numberIn (at-y .y .given .1) in
-    let c₃ = sym (at-two-digits3 .two-digits3 .ensures) ∙ ap numberIn (at-m .m .given .1) in
-    let c₄ = sym (at-two-digits4 .two-digits4 .ensures) ∙ ap numberIn (at-d .d .given .1) in
-    rw (c₁, c₂, c₃, c₄) (c .shifted .ensures ∙ ap (moved _) (toZ-ofZ (at-start .fits .days)))
+    let c₁ = sym (c .before .before .before .before .before .before .before .before .before .before .before .before .before .before .before .before .before .before .before .before .before .before .two-digits .ensures) ∙ ap numberIn (c .before .before .before .before .before .before .before .before .before .before .before .before .before .before .before .before .before .before .before .before .c .given .1) in
+    let c₂ = sym (c .before .before .before .before .before .before .before .before .before .before .before .before .before .before .before .before .two-digits2 .ensures) ∙ ap numberIn (c .before .before .before .before .before .before .before .before .before .before .before .before .before .before .y .given .1) in
+    let c₃ = sym (c .before .before .before .before .before .before .before .before .before .before .two-digits3 .ensures) ∙ ap numberIn (c .before .before .before .before .before .before .before .before .m .given .1) in
+    let c₄ = sym (c .before .before .before .before .two-digits4 .ensures) ∙ ap numberIn (c .before .before .d .given .1) in
+    rw (c₁, c₂, c₃, c₄) (c .shifted .ensures ∙ ap (moved _) (toZ-ofZ (c .before .before .before .before .before .before .before .before .before .before .before .before .before .before .before .before .before .before .before .before .before .before .before .before .before .before .fits .days)))
 
 pub moved-at-spec : {M : Type 1} → statement M
 moved-at-spec =

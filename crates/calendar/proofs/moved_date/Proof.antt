@@ -1,8 +1,9 @@
--- `calendar::moved_date` meets its contract: by the length of the piece. Assumes nothing.
+-- Made by tools/make-proofs from tools/answers/calendar/moved_date: `calendar::moved_date` meets its contract: by the length of the piece. Assumes nothing.
+-- Do not edit: `tools/make-proofs --check` compares. Sums of the answers and of what follows: 87cdd4a96bb26f97 60975f3eaf8d4ab4.
 use mir.Facts.{toZ-ofZ}
 use Rattle.calendar.proofs.Judging.{long, at-date, no-date}
-use native.Mathlib.Omega.{arith}
 use borrow.Author.Needs.{needs}
+use native.Mathlib.Omega.{arith}
 use Rattle.calendar.proofs.moved_date.Statement.{statement}
 use Rattle.calendar.proofs.moved_date.Tie as tie
 
@@ -14,28 +15,24 @@ right-length-requires c κs = search needs
 
 moved-at-requires : tie.Need-moved-at-requires
 moved-at-requires c κs =
-    let at-start = c .before .before .before in
-    let a = at-start .args in
+    let a = c .before .before .before .args in
     omega (
       arith,
-      long (a .da) (a .s .now) (a .a) (a .b) (at-start .pre .1) (a .days) (toZ-ofZ (at-start .fits .days))
+      long (a .da) (a .s .now) (a .a) (a .b) (c .before .before .before .pre .1) (a .days) (toZ-ofZ (c .before .before .before .fits .days))
           (c .before .right-length .ensures) (c .if1 .taken),
-      at-start .pre .1,
+      c .before .before .before .pre .1,
     )
 
 returns : tie.Need-returns
 returns c =
-    let at-right-length = c .before .before in
-    let at-start = at-right-length .before .before in
-    let a = at-start .args in
-    at-date (a .da) (a .s .now) (a .a) (a .b) (at-start .pre .1) (a .days) (toZ-ofZ (at-start .fits .days))
-    (at-right-length .right-length .ensures) (c .before .if1 .taken) (c .moved-at .ensures)
+    let a = c .before .before .before .before .args in
+    at-date (a .da) (a .s .now) (a .a) (a .b) (c .before .before .before .before .pre .1) (a .days) (toZ-ofZ (c .before .before .before .before .fits .days))
+    (c .before .before .right-length .ensures) (c .before .if1 .taken) (c .moved-at .ensures)
 
 returns-2 : tie.Need-returns-2
 returns-2 c =
-    let at-start = c .before .before .before in
-    let a = at-start .args in
-    no-date (a .da) (a .s .now) (a .a) (a .b) (at-start .pre .1) (a .days) (toZ-ofZ (at-start .fits .days))
+    let a = c .before .before .before .args in
+    no-date (a .da) (a .s .now) (a .a) (a .b) (c .before .before .before .pre .1) (a .days) (toZ-ofZ (c .before .before .before .fits .days))
     (c .before .right-length .ensures) (c .if1 .left)
 
 pub moved-date-spec : {M : Type 1} → statement M

@@ -1,5 +1,6 @@
--- `calendar::put_shifted` meets its contract. The loop's invariant is `Writing`: what is written and the pieces left make the
+-- Made by tools/make-proofs from tools/answers/calendar/put_shifted: `calendar::put_shifted` meets its contract. The loop's invariant is `Writing`: what is written and the pieces left make the
 -- text. The measure: what is left of the value. Assumes nothing.
+-- Do not edit: `tools/make-proofs --check` compares. Sums of the answers and of what follows: b559d4a319e6abc6 373c9ed9a356d4d0.
 use mathlib.Core.Path.{ap, _∙_}
 use Prim.Native.Nat.{_-_, _^_}
 use lib.ListN.{length}
@@ -23,53 +24,35 @@ dates-end-requires : tie.Need-dates-end-requires Inv-loop μ-loop
 dates-end-requires c κs = search needs
 
 loop-holds : tie.Need-loop-holds Inv-loop μ-loop
-loop-holds c =
-    let at-start = c .before .before .before in
-    write-start _ _ _ _ _ _ _ (at-start .pre .0) (at-start .pre .1) (c .dates-end .ensures)
+loop-holds c = write-start _ _ _ _ _ _ _ (c .before .before .before .pre .0) (c .before .before .before .pre .1) (c .dates-end .ensures)
 
 piece-end-requires : tie.Need-piece-end-requires Inv-loop μ-loop
 piece-end-requires c κs = let g = c .loop .inv in omega (arith, g .hi, g .upto, g .in-s)
 
 put-piece-requires : tie.Need-put-piece-requires Inv-loop μ-loop
 put-piece-requires c κs =
-    let at-loop = c .before .before in
-    let at-start = at-loop .before .before .before .before in
-    let g = at-loop .loop .inv in
+    let g = c .before .before .loop .inv in
     let u = write-cut g (c .before .piece-end .ensures) in
-    omega (arith, u .from, u .upto, g .lo, g .upto, g .in-s, g .place, at-start .pre .2)
+    omega (arith, u .from, u .upto, g .lo, g .upto, g .in-s, g .place, c .before .before .before .before .before .before .pre .2)
 
 copy-block-requires : tie.Need-copy-block-requires Inv-loop μ-loop
 copy-block-requires c κs =
-    let at-put-piece = c .before .before .before .before in
-    let at-piece-end = at-put-piece .before .before in
-    let at-loop = at-piece-end .before in
-    let at-start = at-loop .before .before .before .before in
-    let g = at-loop .loop .inv in
-    let e = write-end g (at-piece-end .piece-end .ensures) (at-put-piece .put-piece .ensures) in
-    omega (arith, e, g .lo, g .hi, g .upto, g .in-s, c .before .if1 .taken, at-start .pre .2)
+    let g = c .before .before .before .before .before .before .before .loop .inv in
+    let e = write-end g (c .before .before .before .before .before .before .piece-end .ensures) (c .before .before .before .before .put-piece .ensures) in
+    omega (arith, e, g .lo, g .hi, g .upto, g .in-s, c .before .if1 .taken, c .before .before .before .before .before .before .before .before .before .before .before .pre .2)
 
 same-length : tie.Need-same-length Inv-loop μ-loop
 same-length c =
-    let at-copy-block = c .before .before in
-    let at-put-piece = at-copy-block .before .before .before .before .before in
-    let at-piece-end = at-put-piece .before .before in
-    let at-loop = at-piece-end .before in
-    ap length (at-copy-block .copy-block .ensures .1) ∙ length-laid _ _ _
-    ∙ write-size (at-loop .loop .inv) (at-piece-end .piece-end .ensures) (at-put-piece .put-piece .ensures)
+    ap length (c .before .before .copy-block .ensures .1) ∙ length-laid _ _ _
+    ∙ write-size (c .before .before .before .before .before .before .before .before .before .before .loop .inv) (c .before .before .before .before .before .before .before .before .before .piece-end .ensures) (c .before .before .before .before .before .before .before .put-piece .ensures)
 
 returns : tie.Need-returns Inv-loop μ-loop
 returns c =
-    let at-copy-block = c .before .before in
-    let at-if1 = at-copy-block .before .before in
-    let at-put-piece = at-if1 .before .before .before in
-    let at-piece-end = at-put-piece .before .before in
-    let at-loop = at-piece-end .before in
-    let at-start = at-loop .before .before .before .before in
-    let g = at-loop .loop .inv in
-    let e = write-end g (at-piece-end .piece-end .ensures) (at-put-piece .put-piece .ensures) in (
-      omega (arith, at-copy-block .copy-block .ensures .0, e, g .lo, g .hi, g .upto, at-if1 .if1 .taken),
-      write-last g (at-piece-end .piece-end .ensures) (at-put-piece .put-piece .ensures) (at-if1 .if1 .taken) (toZ-ofZ (at-start .fits .days))
-          (at-copy-block .copy-block .ensures .1),
+    let g = c .before .before .before .before .before .before .before .before .before .before .loop .inv in
+    let e = write-end g (c .before .before .before .before .before .before .before .before .before .piece-end .ensures) (c .before .before .before .before .before .before .before .put-piece .ensures) in (
+      omega (arith, c .before .before .copy-block .ensures .0, e, g .lo, g .hi, g .upto, c .before .before .before .before .if1 .taken),
+      write-last g (c .before .before .before .before .before .before .before .before .before .piece-end .ensures) (c .before .before .before .before .before .before .before .put-piece .ensures) (c .before .before .before .before .if1 .taken) (toZ-ofZ (c .before .before .before .before .before .before .before .before .before .before .before .before .before .before .fits .days))
+          (c .before .before .copy-block .ensures .1),
     )
 
 put-requires : tie.Need-put-requires Inv-loop μ-loop
@@ -77,44 +60,28 @@ put-requires c κs = search needs
 
 add-a : tie.Need-add-a Inv-loop μ-loop
 add-a c =
-    let at-if1 = c .before .before .before .before in
-    let at-piece-end = at-if1 .before .before .before .before .before in
-    let at-loop = at-piece-end .before in
-    let g = at-loop .loop .inv in
-    let u = write-cut g (at-piece-end .piece-end .ensures) in
-    omega (arith, u .upto, g .upto, g .in-s, at-if1 .if1 .left)
+    let g = c .before .before .before .before .before .before .before .before .before .before .loop .inv in
+    let u = write-cut g (c .before .before .before .before .before .before .before .before .before .piece-end .ensures) in
+    omega (arith, u .upto, g .upto, g .in-s, c .before .before .before .before .if1 .left)
 
 add-p : tie.Need-add-p Inv-loop μ-loop
 add-p c =
-    let at-if1 = c .before .before .before .before in
-    let at-put-piece = at-if1 .before .before .before in
-    let at-piece-end = at-put-piece .before .before in
-    let at-loop = at-piece-end .before in
-    let at-start = at-loop .before .before .before .before in
-    let u = write-cut (at-loop .loop .inv) (at-piece-end .piece-end .ensures) in
+    let u = write-cut (c .before .before .before .before .before .before .before .before .before .before .loop .inv) (c .before .before .before .before .before .before .before .before .before .piece-end .ensures) in
     record {
-      fits = write-next (at-loop .loop .inv) (at-piece-end .piece-end .ensures) (at-put-piece .put-piece .ensures) (2 ^ 64)
-          (omega (arith, u .upto, at-if1 .if1 .left)) (at-start .pre .2);
+      fits = write-next (c .before .before .before .before .before .before .before .before .before .before .loop .inv) (c .before .before .before .before .before .before .before .before .before .piece-end .ensures) (c .before .before .before .before .before .before .before .put-piece .ensures) (2 ^ 64)
+          (omega (arith, u .upto, c .before .before .before .before .if1 .left)) (c .before .before .before .before .before .before .before .before .before .before .before .before .before .before .pre .2);
     }
 
 loop-less : tie.Need-loop-less Inv-loop μ-loop
 loop-less c =
-    let at-if1 = c .before .before .before .before in
-    let at-piece-end = at-if1 .before .before .before .before .before in
-    let at-loop = at-piece-end .before in
-    let u = write-cut (at-loop .loop .inv) (at-piece-end .piece-end .ensures) in
-    omega (arith, u .from, u .upto, at-if1 .if1 .left)
+    let u = write-cut (c .before .before .before .before .before .before .before .before .before .before .loop .inv) (c .before .before .before .before .before .before .before .before .before .piece-end .ensures) in
+    omega (arith, u .from, u .upto, c .before .before .before .before .if1 .left)
 
 loop-again : tie.Need-loop-again Inv-loop μ-loop
 loop-again c =
-    let at-put = c .before .before in
-    let at-if1 = at-put .before .before in
-    let at-put-piece = at-if1 .before .before .before in
-    let at-piece-end = at-put-piece .before .before in
-    let at-loop = at-piece-end .before in
-    let u = write-cut (at-loop .loop .inv) (at-piece-end .piece-end .ensures) in
-    write-on (at-loop .loop .inv) (at-piece-end .piece-end .ensures) (at-put-piece .put-piece .ensures)
-    (omega (arith, u .upto, at-if1 .if1 .left)) (at-put .put .ensures)
+    let u = write-cut (c .before .before .before .before .before .before .before .before .before .before .loop .inv) (c .before .before .before .before .before .before .before .before .before .piece-end .ensures) in
+    write-on (c .before .before .before .before .before .before .before .before .before .before .loop .inv) (c .before .before .before .before .before .before .before .before .before .piece-end .ensures) (c .before .before .before .before .before .before .before .put-piece .ensures)
+    (omega (arith, u .upto, c .before .before .before .before .if1 .left)) (c .before .before .put .ensures)
 
 pub put-shifted-spec : {M : Type 1} → statement M
 put-shifted-spec =

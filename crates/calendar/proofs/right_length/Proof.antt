@@ -1,4 +1,5 @@
--- `calendar::right_length` meets its contract: by the VR. Assumes nothing.
+-- Made by tools/make-proofs from tools/answers/calendar/right_length: `calendar::right_length` meets its contract: by the VR. Assumes nothing.
+-- Do not edit: `tools/make-proofs --check` compares. Sums of the answers and of what follows: 2c15256f2e75693e 043ac5020ea12740.
 use mathlib.Core.Path.{refl}
 use Rattle.calendar.proofs.right_length.Statement.{statement}
 use Rattle.calendar.proofs.right_length.Tie as tie

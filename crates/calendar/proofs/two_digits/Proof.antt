@@ -1,4 +1,5 @@
--- `calendar::two_digits` meets its contract: the tests of `twoDigits`, in its order. Assumes nothing.
+-- Made by tools/make-proofs from tools/answers/calendar/two_digits: `calendar::two_digits` meets its contract: the tests of `twoDigits`, in its order. Assumes nothing.
+-- Do not edit: `tools/make-proofs --check` compares. Sums of the answers and of what follows: 5f58b2a320ec8192 0c940ac7f3c03d22.
 use borrow.Author.Tests.{le-leb, lt-leb}
 use Rattle.calendar.specs.Text.{twoDigits}
 use borrow.Author.Needs.{needs}
@@ -15,16 +16,11 @@ returns-2 c = simp (le-leb _ _ (c .before .if1 .left), lt-leb _ _ (c .if2 .taken
 
 returns-3 : tie.Need-returns-3
 unfolding twoDigits
-returns-3 c =
-    let at-if1 = c .before .before in
-    simp (le-leb _ _ (at-if1 .if1 .left), le-leb _ _ (c .before .if2 .left), lt-leb _ _ (c .if3 .taken))
+returns-3 c = simp (le-leb _ _ (c .before .before .if1 .left), le-leb _ _ (c .before .if2 .left), lt-leb _ _ (c .if3 .taken))
 
 returns-4 : tie.Need-returns-4
 unfolding twoDigits
-returns-4 c =
-    let at-if2 = c .before .before in
-    let at-if1 = at-if2 .before in
-    simp (le-leb _ _ (at-if1 .if1 .left), le-leb _ _ (at-if2 .if2 .left), le-leb _ _ (c .before .if3 .left), lt-leb _ _ (c .if4 .taken))
+returns-4 c = simp (le-leb _ _ (c .before .before .before .if1 .left), le-leb _ _ (c .before .before .if2 .left), le-leb _ _ (c .before .if3 .left), lt-leb _ _ (c .if4 .taken))
 
 cast-t5 : tie.Need-cast-t5
 cast-t5 c = search needs
@@ -40,10 +36,7 @@ add-t9 c = search needs
 
 returns-5 : tie.Need-returns-5
 unfolding twoDigits
-returns-5 c =
-    let at-if2 = c .before .before in
-    let at-if1 = at-if2 .before in
-    simp (le-leb _ _ (at-if1 .if1 .left), le-leb _ _ (at-if2 .if2 .left), le-leb _ _ (c .before .if3 .left), le-leb _ _ (c .if4 .left))
+returns-5 c = simp (le-leb _ _ (c .before .before .before .if1 .left), le-leb _ _ (c .before .before .if2 .left), le-leb _ _ (c .before .if3 .left), le-leb _ _ (c .if4 .left))
 
 pub two-digits-spec : {M : Type 1} → statement M
 two-digits-spec =

@@ -1,9 +1,10 @@
--- `calendar::year_of` meets its contract. The loop's invariant: the year begins before the day. The measure: the years left.
+-- Made by tools/make-proofs from tools/answers/calendar/year_of: `calendar::year_of` meets its contract. The loop's invariant: the year begins before the day. The measure: the years left.
 -- Assumes nothing.
+-- Do not edit: `tools/make-proofs --check` compares. Sums of the answers and of what follows: 2f66800f9f456bd0 7dbe018b4e2309e2.
 use Prim.Native.Nat.{_<_, _+_, _-_, _*_, _/_}
 use Rattle.calendar.specs.Spans.{before}
 use Rattle.calendar.specs.Dates.{lastYear, yearLen}
-use Rattle.calendar.proofs.SpansLaws.{within-below}
+use Rattle.calendar.proofs.SpansLaws.{inSpan-below}
 use Rattle.calendar.proofs.Closed.{year-high, first-days}
 use native.Mathlib.Omega.{arith}
 use Rattle.calendar.proofs.year_of.Statement.{statement}
@@ -26,31 +27,23 @@ loop-holds c = omega (arith, year-high ((4 * c .args .n - 7) / 1461), first-days
 
 add-before-year : tie.Need-add-before-year Inv-loop μ-loop
 add-before-year c =
-    omega (arith, within-below yearLen (c .before .args .n) (c .loop .y) (lastYear + 1) (c .loop .inv) (c .before .pre .1))
+    omega (arith, inSpan-below yearLen (c .before .args .n) (c .loop .y) (lastYear + 1) (c .loop .inv) (c .before .pre .1))
 
 before-year-requires : tie.Need-before-year-requires Inv-loop μ-loop
 before-year-requires c κs =
-    omega (arith, within-below yearLen (c .before .args .n) (c .loop .y) (lastYear + 1) (c .loop .inv) (c .before .pre .1))
+    omega (arith, inSpan-below yearLen (c .before .args .n) (c .loop .y) (lastYear + 1) (c .loop .inv) (c .before .pre .1))
 
 add-y : tie.Need-add-y Inv-loop μ-loop
-add-y c =
-    let at-loop = c .before .before in
-    let at-start = at-loop .before in
-    omega (arith, within-below yearLen (at-start .args .n) (at-loop .loop .y) (lastYear + 1) (at-loop .loop .inv) (at-start .pre .1))
+add-y c = omega (arith, inSpan-below yearLen (c .before .before .before .args .n) (c .before .before .loop .y) (lastYear + 1) (c .before .before .loop .inv) (c .before .before .before .pre .1))
 
 loop-less : tie.Need-loop-less Inv-loop μ-loop
-loop-less c =
-    let at-loop = c .before .before in
-    let at-start = at-loop .before in
-    omega (arith, within-below yearLen (at-start .args .n) (at-loop .loop .y) (lastYear + 1) (at-loop .loop .inv) (at-start .pre .1))
+loop-less c = omega (arith, inSpan-below yearLen (c .before .before .before .args .n) (c .before .before .loop .y) (lastYear + 1) (c .before .before .loop .inv) (c .before .before .before .pre .1))
 
 loop-again : tie.Need-loop-again Inv-loop μ-loop
 loop-again c = omega (arith, c .before .before-year .ensures)
 
 returns : tie.Need-returns Inv-loop μ-loop
-returns c =
-    let at-loop = c .before .before in
-    (at-loop .loop .inv, omega (arith, c .before .before-year .ensures))
+returns c = (c .before .before .loop .inv, omega (arith, c .before .before-year .ensures))
 
 pub year-of-spec : {M : Type 1} → statement M
 year-of-spec =

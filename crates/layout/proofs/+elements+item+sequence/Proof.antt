@@ -1,4 +1,6 @@
--- The cycle of `layout::elements`, `layout::item`, `layout::sequence` meets its contracts. Assumes nothing.
+-- Made by tools/make-proofs from tools/answers/layout/+elements+item+sequence: The cycle of `layout::elements`, `layout::item`, `layout::sequence` meets its contracts. Assumes nothing.
+-- Do not edit: `tools/make-proofs --check` compares. Sums of the answers and of what follows: ac7f77a3020f1f0e 3df87e0de5f2d60d.
+use Rattle.layout.specs.Source.{explicitly}
 use Rattle.layout.specs.Walks.{Inside, Within}
 use Rattle.layout.specs.declared.Head.the-variants.{Plain, Seq}
 use Rattle.layout.specs.declared.Spot.the-variants.{Item}
@@ -24,13 +26,13 @@ use Rattle.layout.proofs.+elements+item+sequence.{statement}
 use Rattle.layout.proofs.+elements+item+sequence.Tie.{close}
 
 abbrev μ-elements : Measures 1 elements-kinds.ps ℕ
-μ-elements κs a = 3 * (a .1 .1 .0 - a .1 .0)
+μ-elements κs a = 3 * (a .1 .0 .end - a .1 .0 .from)
 
 abbrev μ-item : Measures 1 item-kinds.ps ℕ
-μ-item κs a = 3 * (a .1 .1 .0 - a .1 .0) + 1
+μ-item κs a = 3 * (a .1 .0 .end - a .1 .0 .from) + 1
 
 abbrev μ-sequence : Measures 1 sequence-kinds.ps ℕ
-μ-sequence κs a = 3 * (a .1 .1 .0 - a .1 .0) + 2
+μ-sequence κs a = 3 * (a .1 .0 .end - a .1 .0 .from) + 2
 
 abbrev elements-at : ℕ → In 1 elements-kinds.ps
 elements-at t = and 1 elements-kinds.ps (is 1 elements-kinds.ps μ-elements t) elements.Pre
@@ -53,10 +55,10 @@ sequence-below t =
     and 1 sequence-kinds.ps (falls 1 sequence-kinds.ps _<_ μ-sequence t) sequence.Pre
 
 abbrev elements-Inv-loop : elements-lts.InvT-loop
-elements-Inv-loop s from end marked depth at₀ low₀ at low = Going s from end marked depth at low
+elements-Inv-loop s c at₀ low₀ at low = Going (explicitly s) c at low
 
 abbrev elements-μ-loop : elements-lts.MeasureT-loop
-elements-μ-loop s from end marked depth at₀ low₀ at low = end - at
+elements-μ-loop s c at₀ low₀ at low = c .end - at
 
 -- what its callees ask and ensure, and a need of it
 abbrev elements-calls : ℕ → elements-lts.Claims
@@ -88,12 +90,12 @@ elements-enum-known-h-3 t c = search needs
 
 elements-add-low : (t : ℕ) → elements-need elements-lts.Need-add-low t
 elements-add-low t c =
-    let v : Inside (c .before .before .before .before .loop .at) (c .before .before .before .before .before .before .args .end) (Plain (c .before .h3 .given .0 .0) (c .before .h3 .given .0 .1 .0) (c .before .h3 .given .0 .1 .1 .0) (c .before .h3 .given .0 .1 .1 .1 .0)) = rw (c .before .h3 .given .1) at (c .before .before .before .element-head .ensures .1) in
+    let v : Inside (c .before .before .before .before .loop .at) (c .before .before .before .before .before .before .args .c .end) (Plain (c .before .h3 .given .0 .0) (c .before .h3 .given .0 .1 .0) (c .before .h3 .given .0 .1 .1 .0) (c .before .h3 .given .0 .1 .1 .1 .0)) = rw (c .before .h3 .given .1) at (c .before .before .before .element-head .ensures .1) in
     omega arith
 
 elements-loop-less : (t : ℕ) → elements-need elements-lts.Need-loop-less t
 elements-loop-less t c =
-    let v : Inside (c .before .before .before .before .loop .at) (c .before .before .before .before .before .before .args .end) (Plain (c .before .h3 .given .0 .0) (c .before .h3 .given .0 .1 .0) (c .before .h3 .given .0 .1 .1 .0) (c .before .h3 .given .0 .1 .1 .1 .0)) = rw (c .before .h3 .given .1) at (c .before .before .before .element-head .ensures .1) in
+    let v : Inside (c .before .before .before .before .loop .at) (c .before .before .before .before .before .before .args .c .end) (Plain (c .before .h3 .given .0 .0) (c .before .h3 .given .0 .1 .0) (c .before .h3 .given .0 .1 .1 .0) (c .before .h3 .given .0 .1 .1 .1 .0)) = rw (c .before .h3 .given .1) at (c .before .before .before .element-head .ensures .1) in
     omega arith
 
 elements-loop-again : (t : ℕ) → elements-need elements-lts.Need-loop-again t
@@ -104,7 +106,7 @@ elements-enum-known-h-4 t c = search needs
 
 elements-sequence-requires : (t : ℕ) → elements-need elements-lts.Need-sequence-requires t
 elements-sequence-requires t c κs =
-    let v : Inside (c .before .before .before .before .loop .at) (c .before .before .before .before .before .before .args .end) (Seq (c .before .h4 .given .0 .0) (c .before .h4 .given .0 .1 .0) (c .before .h4 .given .0 .1 .1 .0) (c .before .h4 .given .0 .1 .1 .1 .0)) = rw (c .before .h4 .given .1) at (c .before .before .before .element-head .ensures .1) in
+    let v : Inside (c .before .before .before .before .loop .at) (c .before .before .before .before .before .before .args .c .end) (Seq (c .before .h4 .given .0 .0) (c .before .h4 .given .0 .1 .0) (c .before .h4 .given .0 .1 .1 .0) (c .before .h4 .given .0 .1 .1 .1 .0)) = rw (c .before .h4 .given .1) at (c .before .before .before .element-head .ensures .1) in
     omega arith
 
 elements-enum-known-q : (t : ℕ) → elements-need elements-lts.Need-enum-known-q t
@@ -118,12 +120,12 @@ elements-enum-known-q-2 t c = search needs
 
 elements-add-low-2 : (t : ℕ) → elements-need elements-lts.Need-add-low-2 t
 elements-add-low-2 t c =
-    let v : Inside (c .before .before .before .before .before .before .before .before .loop .at) (c .before .before .before .before .before .before .before .before .before .before .args .end) (Seq (c .before .before .before .before .before .h4 .given .0 .0) (c .before .before .before .before .before .h4 .given .0 .1 .0) (c .before .before .before .before .before .h4 .given .0 .1 .1 .0) (c .before .before .before .before .before .h4 .given .0 .1 .1 .1 .0)) = rw (c .before .before .before .before .before .h4 .given .1) at (c .before .before .before .before .before .before .before .element-head .ensures .1) in
+    let v : Inside (c .before .before .before .before .before .before .before .before .loop .at) (c .before .before .before .before .before .before .before .before .before .before .args .c .end) (Seq (c .before .before .before .before .before .h4 .given .0 .0) (c .before .before .before .before .before .h4 .given .0 .1 .0) (c .before .before .before .before .before .h4 .given .0 .1 .1 .0) (c .before .before .before .before .before .h4 .given .0 .1 .1 .1 .0)) = rw (c .before .before .before .before .before .h4 .given .1) at (c .before .before .before .before .before .before .before .element-head .ensures .1) in
     omega arith
 
 elements-loop-less-2 : (t : ℕ) → elements-need elements-lts.Need-loop-less-2 t
 elements-loop-less-2 t c =
-    let v : Inside (c .before .before .before .before .before .before .before .before .loop .at) (c .before .before .before .before .before .before .before .before .before .before .args .end) (Seq (c .before .before .before .before .before .h4 .given .0 .0) (c .before .before .before .before .before .h4 .given .0 .1 .0) (c .before .before .before .before .before .h4 .given .0 .1 .1 .0) (c .before .before .before .before .before .h4 .given .0 .1 .1 .1 .0)) = rw (c .before .before .before .before .before .h4 .given .1) at (c .before .before .before .before .before .before .before .element-head .ensures .1) in
+    let v : Inside (c .before .before .before .before .before .before .before .before .loop .at) (c .before .before .before .before .before .before .before .before .before .before .args .c .end) (Seq (c .before .before .before .before .before .h4 .given .0 .0) (c .before .before .before .before .before .h4 .given .0 .1 .0) (c .before .before .before .before .before .h4 .given .0 .1 .1 .0) (c .before .before .before .before .before .h4 .given .0 .1 .1 .1 .0)) = rw (c .before .before .before .before .before .h4 .given .1) at (c .before .before .before .before .before .before .before .element-head .ensures .1) in
     omega (arith, (rw (c .before .q2 .given .1) at (c .before .before .before .sequence .ensures .stays)) .0)
 
 elements-loop-again-2 : (t : ℕ) → elements-need elements-lts.Need-loop-again-2 t
@@ -136,8 +138,8 @@ item-calls t = (elements-below t, elements.Post)
 abbrev item-need : (item-lts.Claims → In 1 item-kinds.ps → Out 1 item-kinds.ps item-kinds.r → Type 0) → ℕ → Type 0
 item-need N t = N (item-calls t) (item-at t) item.Post
 
-item-sub-elements : (t : ℕ) → item-need item-lts.Need-sub-elements t
-item-sub-elements t c = omega arith
+item-sub-depth : (t : ℕ) → item-need item-lts.Need-sub-depth t
+item-sub-depth t c = omega arith
 
 item-elements-requires : (t : ℕ) → item-need item-lts.Need-elements-requires t
 item-elements-requires t c κs = omega arith
@@ -146,10 +148,10 @@ item-returns : (t : ℕ) → item-need item-lts.Need-returns t
 item-returns t c = c .elements .ensures
 
 abbrev sequence-Inv-loop : sequence-lts.InvT-loop
-sequence-Inv-loop s from end marked depth at₀ at = GoingItems s from end marked depth at
+sequence-Inv-loop s c at₀ at = GoingItems (explicitly s) c at
 
 abbrev sequence-μ-loop : sequence-lts.MeasureT-loop
-sequence-μ-loop s from end marked depth at₀ at = end - at
+sequence-μ-loop s c at₀ at = c .end - at
 
 -- what its callees ask and ensure, and a need of it
 abbrev sequence-calls : ℕ → sequence-lts.Claims
@@ -181,7 +183,7 @@ sequence-enum-known-h-3 t c = search needs
 
 sequence-item-requires : (t : ℕ) → sequence-need sequence-lts.Need-item-requires t
 sequence-item-requires t c κs =
-    let v : Within (c .before .before .before .before .loop .at) (c .before .before .before .before .before .before .args .end) (c .before .before .before .before .before .before .args .depth) (Item (c .before .h3 .given .0 .0) (c .before .h3 .given .0 .1 .0) (c .before .h3 .given .0 .1 .1 .0)) = rw (c .before .h3 .given .1) at (c .before .before .before .item-head .ensures .1) in
+    let v : Within (c .before .before .before .before .loop .at) (c .before .before .before .before .before .before .args .c .end) (c .before .before .before .before .before .before .args .c .depth) (Item (c .before .h3 .given .0 .0) (c .before .h3 .given .0 .1 .0) (c .before .h3 .given .0 .1 .1 .0)) = rw (c .before .h3 .given .1) at (c .before .before .before .item-head .ensures .1) in
     omega arith
 
 sequence-enum-known-q : (t : ℕ) → sequence-need sequence-lts.Need-enum-known-q t
@@ -195,7 +197,7 @@ sequence-enum-known-q-2 t c = search needs
 
 sequence-loop-less : (t : ℕ) → sequence-need sequence-lts.Need-loop-less t
 sequence-loop-less t c =
-    let v : Within (c .before .before .before .before .before .before .before .before .loop .at) (c .before .before .before .before .before .before .before .before .before .before .args .end) (c .before .before .before .before .before .before .before .before .before .before .args .depth) (Item (c .before .before .before .before .before .h3 .given .0 .0) (c .before .before .before .before .before .h3 .given .0 .1 .0) (c .before .before .before .before .before .h3 .given .0 .1 .1 .0)) = rw (c .before .before .before .before .before .h3 .given .1) at (c .before .before .before .before .before .before .before .item-head .ensures .1) in
+    let v : Within (c .before .before .before .before .before .before .before .before .loop .at) (c .before .before .before .before .before .before .before .before .before .before .args .c .end) (c .before .before .before .before .before .before .before .before .before .before .args .c .depth) (Item (c .before .before .before .before .before .h3 .given .0 .0) (c .before .before .before .before .before .h3 .given .0 .1 .0) (c .before .before .before .before .before .h3 .given .0 .1 .1 .0)) = rw (c .before .before .before .before .before .h3 .given .1) at (c .before .before .before .before .before .before .before .item-head .ensures .1) in
     omega (arith, (rw (c .before .q2 .given .1) at (c .before .before .before .item .ensures .stays)) .0)
 
 sequence-loop-again : (t : ℕ) → sequence-need sequence-lts.Need-loop-again t
@@ -229,7 +231,7 @@ pub +elements+item+sequence-spec : {M : Type 1} → statement M
     (item-calls t)
     (item-at t)
     item.Post
-    (item-sub-elements t)
+    (item-sub-depth t)
     (item-elements-requires t)
     (item-returns t))
     λ t. sequence-lts.spec

@@ -1,16 +1,12 @@
--- `layout::element_head` meets its contract. Assumes nothing.
+-- Made by tools/make-proofs from tools/answers/layout/element_head: `layout::element_head` meets its contract. Assumes nothing.
+-- Do not edit: `tools/make-proofs --check` compares. Sums of the answers and of what follows: 8207be3aaa17ee11 1bd13be64dcc4d57.
 use borrow.Author.Tests.{eq-eqb, ne-eqb, lt-ltb, le-ltb}
 use Rattle.layout.specs.Heads.{elementHead}
 use Rattle.layout.proofs.HeadLaws.{apart}
-use native.Mathlib.Omega.{arith}
 use borrow.Author.Needs.{needs}
+use native.Mathlib.Omega.{arith}
 use Rattle.layout.proofs.element_head.Statement.{statement}
 use Rattle.layout.proofs.element_head.Tie as tie
-use Rattle.layout.proofs.element_head.Reads as reads
-use Rattle.layout.proofs.element_head.Lts as lts
-use Rattle.layout.proofs.tag_at.Reads as tag-at-reads
-use Rattle.layout.proofs.tag_head.Reads as tag-head-reads
-use Rattle.layout.proofs.u32_at.Reads as u32-at-reads
 
 sub-if1 : tie.Need-sub-if1
 sub-if1 c = search needs

@@ -1,14 +1,11 @@
--- `layout::item_at` meets its contract. Assumes nothing.
+-- Made by tools/make-proofs from tools/answers/layout/item_at: `layout::item_at` meets its contract. Assumes nothing.
+-- Do not edit: `tools/make-proofs --check` compares. Sums of the answers and of what follows: afcf17153f18c068 0673eb9336cfa1c7.
 use borrow.Author.Tests.{eq-eqb, ne-eqb}
 use Rattle.layout.specs.Heads.{itemAt}
-use native.Mathlib.Omega.{arith}
 use borrow.Author.Needs.{needs}
+use native.Mathlib.Omega.{arith}
 use Rattle.layout.proofs.item_at.Statement.{statement}
 use Rattle.layout.proofs.item_at.Tie as tie
-use Rattle.layout.proofs.item_at.Reads as reads
-use Rattle.layout.proofs.item_at.Lts as lts
-use Rattle.layout.proofs.item_body.Reads as item-body-reads
-use Rattle.layout.proofs.u32_at.Reads as u32-at-reads
 
 returns : tie.Need-returns
 unfolding itemAt

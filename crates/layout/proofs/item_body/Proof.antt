@@ -1,14 +1,12 @@
--- `layout::item_body` meets its contract. Assumes nothing.
+-- Made by tools/make-proofs from tools/answers/layout/item_body: `layout::item_body` meets its contract. Assumes nothing.
+-- Do not edit: `tools/make-proofs --check` compares. Sums of the answers and of what follows: 1bc251b974d2c6c7 1e7a9daf77c7c74f.
 use borrow.Author.Tests.{eq-eqb, ne-eqb}
 use Rattle.layout.specs.Heads.{itemBody}
 use Rattle.layout.proofs.HeadLaws.{fault-none}
-use native.Mathlib.Omega.{arith}
 use borrow.Author.Needs.{needs}
+use native.Mathlib.Omega.{arith}
 use Rattle.layout.proofs.item_body.Statement.{statement}
 use Rattle.layout.proofs.item_body.Tie as tie
-use Rattle.layout.proofs.item_body.Reads as reads
-use Rattle.layout.proofs.item_body.Lts as lts
-use Rattle.layout.proofs.length_fault.Reads as length-fault-reads
 
 returns : tie.Need-returns
 unfolding itemBody

@@ -1,16 +1,12 @@
--- `layout::item_head` meets its contract. Assumes nothing.
+-- Made by tools/make-proofs from tools/answers/layout/item_head: `layout::item_head` meets its contract. Assumes nothing.
+-- Do not edit: `tools/make-proofs --check` compares. Sums of the answers and of what follows: b143d12e4ebd541f 9706beb4e13dad3c.
 use borrow.Author.Tests.{eq-eqb, ne-eqb, lt-ltb, le-ltb}
 use Rattle.layout.specs.Heads.{itemHead}
 use Rattle.layout.proofs.HeadLaws.{apart}
-use native.Mathlib.Omega.{arith}
 use borrow.Author.Needs.{needs}
+use native.Mathlib.Omega.{arith}
 use Rattle.layout.proofs.item_head.Statement.{statement}
 use Rattle.layout.proofs.item_head.Tie as tie
-use Rattle.layout.proofs.item_head.Reads as reads
-use Rattle.layout.proofs.item_head.Lts as lts
-use Rattle.layout.proofs.item_at.Reads as item-at-reads
-use Rattle.layout.proofs.tag_at.Reads as tag-at-reads
-use Rattle.layout.proofs.u32_at.Reads as u32-at-reads
 
 sub-if1 : tie.Need-sub-if1
 sub-if1 c = search needs

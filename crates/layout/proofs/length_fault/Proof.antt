@@ -1,12 +1,9 @@
--- `layout::length_fault` meets its contract. Assumes nothing.
+-- Made by tools/make-proofs from tools/answers/layout/length_fault: `layout::length_fault` meets its contract. Assumes nothing.
+-- Do not edit: `tools/make-proofs --check` compares. Sums of the answers and of what follows: 01007e0b7dceea21 004553ff6829dbb2.
 use borrow.Author.Tests.{eq-eqb, ne-eqb, lt-ltb, le-ltb}
 use Rattle.layout.specs.Heads.{lengthFault}
-use borrow.Author.Needs.{needs}
-use native.Mathlib.Omega.{arith}
 use Rattle.layout.proofs.length_fault.Statement.{statement}
 use Rattle.layout.proofs.length_fault.Tie as tie
-use Rattle.layout.proofs.length_fault.Reads as reads
-use Rattle.layout.proofs.length_fault.Lts as lts
 
 returns : tie.Need-returns
 unfolding lengthFault

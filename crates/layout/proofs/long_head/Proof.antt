@@ -1,16 +1,11 @@
--- `layout::long_head` meets its contract. Assumes nothing.
+-- Made by tools/make-proofs from tools/answers/layout/long_head: `layout::long_head` meets its contract. Assumes nothing.
+-- Do not edit: `tools/make-proofs --check` compares. Sums of the answers and of what follows: d9fa46883e2e7977 4e92f964492148d9.
 use borrow.Author.Tests.{eq-eqb, ne-eqb, lt-ltb, le-ltb}
 use Rattle.layout.specs.Heads.{longHead}
-use native.Mathlib.Omega.{arith}
 use borrow.Author.Needs.{needs}
+use native.Mathlib.Omega.{arith}
 use Rattle.layout.proofs.long_head.Statement.{statement}
 use Rattle.layout.proofs.long_head.Tie as tie
-use Rattle.layout.proofs.long_head.Reads as reads
-use Rattle.layout.proofs.long_head.Lts as lts
-use Rattle.layout.proofs.sequence_head.Reads as sequence-head-reads
-use Rattle.layout.proofs.u16_at.Reads as u16-at-reads
-use Rattle.layout.proofs.u32_at.Reads as u32-at-reads
-use Rattle.layout.proofs.value_head.Reads as value-head-reads
 
 sub-if1 : tie.Need-sub-if1
 sub-if1 c = search needs

@@ -1,14 +1,12 @@
--- `layout::sequence_head` meets its contract. Assumes nothing.
+-- Made by tools/make-proofs from tools/answers/layout/sequence_head: `layout::sequence_head` meets its contract. Assumes nothing.
+-- Do not edit: `tools/make-proofs --check` compares. Sums of the answers and of what follows: dfe8355e35b4e704 e8db3b597adfa620.
 use borrow.Author.Tests.{eq-eqb, ne-eqb}
 use Rattle.layout.specs.Heads.{sequenceHead}
 use Rattle.layout.proofs.HeadLaws.{fault-none}
-use native.Mathlib.Omega.{arith}
 use borrow.Author.Needs.{needs}
+use native.Mathlib.Omega.{arith}
 use Rattle.layout.proofs.sequence_head.Statement.{statement}
 use Rattle.layout.proofs.sequence_head.Tie as tie
-use Rattle.layout.proofs.sequence_head.Reads as reads
-use Rattle.layout.proofs.sequence_head.Lts as lts
-use Rattle.layout.proofs.length_fault.Reads as length-fault-reads
 
 returns : tie.Need-returns
 unfolding sequenceHead

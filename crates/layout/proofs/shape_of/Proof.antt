@@ -1,12 +1,10 @@
--- `layout::shape_of` meets its contract. Assumes nothing.
+-- Made by tools/make-proofs from tools/answers/layout/shape_of: `layout::shape_of` meets its contract. Assumes nothing.
+-- Do not edit: `tools/make-proofs --check` compares. Sums of the answers and of what follows: fcb63daf9bb67ed1 e8d150d5b6df34b6.
 use Rattle.layout.specs.Read.{read}
-use native.Mathlib.Omega.{arith}
 use borrow.Author.Needs.{needs}
+use native.Mathlib.Omega.{arith}
 use Rattle.layout.proofs.shape_of.Statement.{statement}
 use Rattle.layout.proofs.shape_of.Tie as tie
-use Rattle.layout.proofs.shape_of.Reads as reads
-use Rattle.layout.proofs.shape_of.Lts as lts
-use Rattle.layout.proofs.elements.Reads as elements-reads
 
 elements-requires : tie.Need-elements-requires
 elements-requires c κs = search needs

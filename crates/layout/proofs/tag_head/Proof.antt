@@ -1,13 +1,10 @@
--- `layout::tag_head` meets its contract. Assumes nothing.
+-- Made by tools/make-proofs from tools/answers/layout/tag_head: `layout::tag_head` meets its contract. Assumes nothing.
+-- Do not edit: `tools/make-proofs --check` compares. Sums of the answers and of what follows: d0aefd4e27529942 ba1ddd31c50f689e.
 use borrow.Author.Tests.{lt-ltb, le-ltb, le-leb, lt-leb}
 use Rattle.layout.specs.Heads.{tagHead, allowed}
-use native.Mathlib.Omega.{arith}
 use borrow.Author.Needs.{needs}
 use Rattle.layout.proofs.tag_head.Statement.{statement}
 use Rattle.layout.proofs.tag_head.Tie as tie
-use Rattle.layout.proofs.tag_head.Reads as reads
-use Rattle.layout.proofs.tag_head.Lts as lts
-use Rattle.layout.proofs.vr_head.Reads as vr-head-reads
 
 returns : tie.Need-returns
 unfolding tagHead allowed

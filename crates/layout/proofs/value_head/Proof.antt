@@ -1,14 +1,12 @@
--- `layout::value_head` meets its contract. Assumes nothing.
+-- Made by tools/make-proofs from tools/answers/layout/value_head: `layout::value_head` meets its contract. Assumes nothing.
+-- Do not edit: `tools/make-proofs --check` compares. Sums of the answers and of what follows: 5adad3f2395eed32 11693ed6913d7feb.
 use borrow.Author.Tests.{eq-eqb, ne-eqb}
 use Rattle.layout.specs.Heads.{lengthFault, valueHead}
 use Rattle.layout.proofs.HeadLaws.{fault-none}
-use native.Mathlib.Omega.{arith}
 use borrow.Author.Needs.{needs}
+use native.Mathlib.Omega.{arith}
 use Rattle.layout.proofs.value_head.Statement.{statement}
 use Rattle.layout.proofs.value_head.Tie as tie
-use Rattle.layout.proofs.value_head.Reads as reads
-use Rattle.layout.proofs.value_head.Lts as lts
-use Rattle.layout.proofs.length_fault.Reads as length-fault-reads
 
 sub-length-fault : tie.Need-sub-length-fault
 sub-length-fault c = search needs

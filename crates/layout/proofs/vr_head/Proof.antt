@@ -1,16 +1,11 @@
--- `layout::vr_head` meets its contract. Assumes nothing.
+-- Made by tools/make-proofs from tools/answers/layout/vr_head: `layout::vr_head` meets its contract. Assumes nothing.
+-- Do not edit: `tools/make-proofs --check` compares. Sums of the answers and of what follows: 2e17387f88bb7293 1d689691fc921f67.
 use mathlib.Core.Path.{_≡_, sym, _∙_}
 use Rattle.layout.proofs.HeadLaws.{vrHead-unknown, vrHead-short, vrHead-long, vrHead-sequence}
-use native.Mathlib.Omega.{arith}
 use borrow.Author.Needs.{needs}
+use native.Mathlib.Omega.{arith}
 use Rattle.layout.proofs.vr_head.Statement.{statement}
 use Rattle.layout.proofs.vr_head.Tie as tie
-use Rattle.layout.proofs.vr_head.Reads as reads
-use Rattle.layout.proofs.vr_head.Lts as lts
-use Rattle.layout.proofs.long_head.Reads as long-head-reads
-use Rattle.layout.proofs.u16_at.Reads as u16-at-reads
-use Rattle.layout.proofs.value_head.Reads as value-head-reads
-use Rattle.vr.proofs.kind_of.Reads as kind-of-reads
 
 add-u16-at : tie.Need-add-u16-at
 add-u16-at c = search needs

@@ -1,4 +1,5 @@
--- `find` meets its contract: one law for each way on in its loop or out of it. Assumes nothing.
+-- Made by tools/make-proofs from tools/answers/ledger/find: `find` meets its contract: one law for each way on in its loop or out of it. Assumes nothing.
+-- Do not edit: `tools/make-proofs --check` compares. Sums of the answers and of what follows: 2dbb43f82712c3a2 e9f70178d45070f7.
 use Prim.Native.Nat.{_-_}
 use Rattle.ledger.proofs.SearchTurns.{Searched, searched-start, searched-found, searched-more, searched-end}
 use native.Mathlib.Omega.{arith}

@@ -1,8 +1,9 @@
--- `key_of` meets its contract: the UID is written over zeros. Assumes nothing.
+-- Made by tools/make-proofs from tools/answers/ledger/key_of: `key_of` meets its contract: the UID is written over zeros. Assumes nothing.
+-- Do not edit: `tools/make-proofs --check` compares. Sums of the answers and of what follows: 39fbb2197220ddb0 a3052ab1e9eeea7b.
 use mathlib.Core.Path.{_∙_}
 use Rattle.ledger.proofs.SlotLaws.{slotOf-laid}
-use native.Mathlib.Omega.{arith}
 use borrow.Author.Needs.{needs}
+use native.Mathlib.Omega.{arith}
 use Rattle.ledger.proofs.key_of.Statement.{statement}
 use Rattle.ledger.proofs.key_of.Tie as tie
 

@@ -1,4 +1,5 @@
--- `same_slot` meets its contract: one law for each way on in its loop or out of it. Assumes nothing.
+-- Made by tools/make-proofs from tools/answers/ledger/same_slot: `same_slot` meets its contract: one law for each way on in its loop or out of it. Assumes nothing.
+-- Do not edit: `tools/make-proofs --check` compares. Sums of the answers and of what follows: 6c383e4d06cd9484 f9ac49185dc2dbc6.
 use mathlib.Core.Logic.{⊎-elim}
 use Prim.Native.Nat.{_-_}
 use Rattle.ledger.specs.Slots.{slotSize}

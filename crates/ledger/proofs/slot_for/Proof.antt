@@ -1,7 +1,8 @@
--- `slot_for` meets its contract: one law for each way out. Assumes nothing.
-use Rattle.ledger.proofs.AnswerLaws.{answer-old, answer-new, answer-full}
-use native.Mathlib.Omega.{arith}
+-- Made by tools/make-proofs from tools/answers/ledger/slot_for: `slot_for` meets its contract: one law for each way out. Assumes nothing.
+-- Do not edit: `tools/make-proofs --check` compares. Sums of the answers and of what follows: a8fa921e299ad120 271bdb695076fba6.
+use Rattle.ledger.proofs.SlotForLaws.{answer-old, answer-new, answer-full}
 use borrow.Author.Needs.{needs}
+use native.Mathlib.Omega.{arith}
 use Rattle.ledger.proofs.slot_for.Statement.{statement}
 use Rattle.ledger.proofs.slot_for.Tie as tie
 

@@ -1,6 +1,7 @@
--- `slot_of` meets its contract: the key is the UID's slot. Assumes nothing.
+-- Made by tools/make-proofs from tools/answers/ledger/slot_of: `slot_of` meets its contract: the key is the UID's slot. Assumes nothing.
+-- Do not edit: `tools/make-proofs --check` compares. Sums of the answers and of what follows: a3f895f24e9fe1fd 09d10c5e3257f863.
 use mathlib.Core.Path.{subst}
-use Rattle.ledger.proofs.AnswerLaws.{Answered}
+use Rattle.ledger.proofs.SlotForLaws.{Answered}
 use borrow.Author.Needs.{needs}
 use Rattle.ledger.proofs.slot_of.Statement.{statement}
 use Rattle.ledger.proofs.slot_of.Tie as tie

@@ -1,10 +1,11 @@
--- `lists::entry_at` meets its contract: a law of `entryAt` for each way out. Assumes nothing.
+-- Made by tools/make-proofs from tools/answers/lists/entry_at: `lists::entry_at` meets its contract: a law of `entryAt` for each way out. Assumes nothing.
+-- Do not edit: `tools/make-proofs --check` compares. Sums of the answers and of what follows: 28811d716ebcf0e5 0db2195f00c98cde.
 use mathlib.Core.Path.{sym, ap}
-use Rattle.lists.specs.Answers.{foundOf}
-use Rattle.lists.proofs.AnswersLaws.{numOf-got, numOf-bad}
+use Rattle.lists.specs.Handed.{foundOf}
+use Rattle.lists.proofs.HandedLaws.{numOf-got, numOf-bad}
 use Rattle.lists.proofs.ListsLaws.{entryAt-tagless, entryAt-short, entryAt-empty, entryAt-long, entryAt-cut, entryAt-is}
-use native.Mathlib.Omega.{arith}
 use borrow.Author.Needs.{needs}
+use native.Mathlib.Omega.{arith}
 use Rattle.lists.proofs.entry_at.Statement.{statement}
 use Rattle.lists.proofs.entry_at.Tie as tie
 

@@ -1,10 +1,10 @@
--- `lists::list_ok` meets its contract. The loop's invariant is `Judging`: the entries that are left say the whole. The measure is how many
+-- Made by tools/make-proofs from tools/answers/lists/list_ok: `lists::list_ok` meets its contract. The loop's invariant is `Judging`: the entries that are left say the whole. The measure is how many
 -- entries there may still be. Assumes nothing.
+-- Do not edit: `tools/make-proofs --check` compares. Sums of the answers and of what follows: eb05dab96be26397 bfbffe26640f5a33.
 use borrow.Author.Tests.{not-true, not-false}
 use Prim.Native.Nat.{_≤_}
 use mathlib.Core.Path.{_≡_, sym, _∙_}
-use Rattle.lists.specs.Lists.{mostTag}
-use Rattle.lists.proofs.AnswersLaws.{foundOf-at, foundOf-nothing}
+use Rattle.lists.proofs.HandedLaws.{foundOf-at, foundOf-nothing}
 use Rattle.lists.proofs.ListsLaws.{entryAt-within, Judging, judging-start, judging-end, judging-many, judging-broken, judging-falls, judging-odd, judging-next}
 use borrow.Author.Needs.{needs}
 use native.Mathlib.Omega.{arith}
@@ -38,11 +38,11 @@ enum-known-next c = search needs
 returns-3 : tie.Need-returns-3 Inv-loop μ-loop
 returns-3 c = sym (judging-falls (c .before .before .before .before .before .before .before .loop .inv) (c .before .before .before .before .before .before .loop-test .taken) (c .before .before .before .before .before .if1 .left) (foundOf-at _ _ (c .before .before .before .before .entry-at .ensures) (c .before .before .next .given .1)) (c .if2 .taken))
 
-plain-value-requires : tie.Need-plain-value-requires Inv-loop μ-loop
-plain-value-requires c κs = entryAt-within _ _ _ (foundOf-at _ _ (c .before .before .before .before .entry-at .ensures) (c .before .before .next .given .1)) .whole
+all-printable-requires : tie.Need-all-printable-requires Inv-loop μ-loop
+all-printable-requires c κs = entryAt-within _ _ _ (foundOf-at _ _ (c .before .before .before .before .entry-at .ensures) (c .before .before .next .given .1)) .whole
 
 returns-4 : tie.Need-returns-4 Inv-loop μ-loop
-returns-4 c = sym (judging-odd (c .before .before .before .before .before .before .before .before .before .loop .inv) (c .before .before .before .before .before .before .before .before .loop-test .taken) (c .before .before .before .before .before .before .before .if1 .left) (foundOf-at _ _ (c .before .before .before .before .before .before .entry-at .ensures) (c .before .before .before .before .next .given .1)) (sym (c .before .plain-value .ensures) ∙ not-true _ (c .if3 .taken)))
+returns-4 c = sym (judging-odd (c .before .before .before .before .before .before .before .before .before .loop .inv) (c .before .before .before .before .before .before .before .before .loop-test .taken) (c .before .before .before .before .before .before .before .if1 .left) (foundOf-at _ _ (c .before .before .before .before .before .before .entry-at .ensures) (c .before .before .before .before .next .given .1)) (sym (c .before .all-printable .ensures) ∙ not-true _ (c .if3 .taken)))
 
 add-low : tie.Need-add-low Inv-loop μ-loop
 add-low c = omega (arith, entryAt-within _ _ _ (foundOf-at _ _ (c .before .before .before .before .before .before .entry-at .ensures) (c .before .before .before .before .next .given .1)) .tag)
@@ -54,7 +54,7 @@ loop-less : tie.Need-loop-less Inv-loop μ-loop
 loop-less c = omega arith
 
 loop-again : tie.Need-loop-again Inv-loop μ-loop
-loop-again c = judging-next (c .before .before .before .before .before .before .before .before .before .loop .inv) (c .before .before .before .before .before .before .before .before .loop-test .taken) (c .before .before .before .before .before .before .before .if1 .left) (foundOf-at _ _ (c .before .before .before .before .before .before .entry-at .ensures) (c .before .before .before .before .next .given .1)) (c .before .before .if2 .left) (sym (c .before .plain-value .ensures) ∙ not-false _ (c .if3 .left))
+loop-again c = judging-next (c .before .before .before .before .before .before .before .before .before .loop .inv) (c .before .before .before .before .before .before .before .before .loop-test .taken) (c .before .before .before .before .before .before .before .if1 .left) (foundOf-at _ _ (c .before .before .before .before .before .before .entry-at .ensures) (c .before .before .before .before .next .given .1)) (c .before .before .if2 .left) (sym (c .before .all-printable .ensures) ∙ not-false _ (c .if3 .left))
 
 returns-5 : tie.Need-returns-5 Inv-loop μ-loop
 returns-5 c = sym (judging-end (c .before .loop .inv) (c .loop-test .left))
@@ -72,7 +72,7 @@ list-ok-spec =
     returns-2
     enum-known-next
     returns-3
-    plain-value-requires
+    all-printable-requires
     returns-4
     add-low
     sub-left

@@ -1,10 +1,11 @@
--- `lists::tag_at` meets its contract. The loop's invariant is `Going`: the groups that were read and what is left say the whole number.
+-- Made by tools/make-proofs from tools/answers/lists/tag_at: `lists::tag_at` meets its contract. The loop's invariant is `Going`: the groups that were read and what is left say the whole number.
 -- The measure is what is left of the list. Assumes nothing.
-use Prim.Native.Nat.{ℕ, _≤_, _<_, _+_, _-_, _*_, _%_}
+-- Do not edit: `tools/make-proofs --check` compares. Sums of the answers and of what follows: c61b136fe88f0ba2 99972ed461f4b6f0.
+use Prim.Native.Nat.{_≤_, _<_, _+_, _-_, _*_, _%_}
 use mathlib.Core.Path.{_≡_, sym, ap}
 use lib.ListN.{length, getD}
 use Rattle.lists.specs.Lists.{mostTag}
-use Rattle.lists.specs.Answers.{numOf}
+use Rattle.lists.specs.Handed.{numOf}
 use Rattle.lists.proofs.NumberLaws.{numberAt-end, numberAt-small, Going, going-start, going-more, going-zero, going-last, going-large, going-end, going-past, worth}
 use native.Mathlib.Omega.{arith}
 use Rattle.lists.proofs.tag_at.Statement.{statement}

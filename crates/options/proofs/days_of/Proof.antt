@@ -1,8 +1,6 @@
--- `options::days_of` meets its contract: a shift of few days fits 32 bits. Assumes nothing.
-use mathlib.Core.Path.{_≡_, refl, sym, ap, _∙_}
+-- Made by tools/make-proofs from tools/answers/options/days_of: `options::days_of` meets its contract: a shift of few days fits 32 bits. Assumes nothing.
+-- Do not edit: `tools/make-proofs --check` compares. Sums of the answers and of what follows: 1adbca3dff1fcc61 a170b65b4c141579.
 use mir.Facts.{toZ-ofZ}
-use mir.Syntax.{w32}
-use mir.Val.{toZ, ofZ}
 use Rattle.options.specs.Settings.{mostShift}
 use Rattle.options.proofs.SignLaws.{fits-i32}
 use native.Mathlib.Omega.{arith}

@@ -1,4 +1,5 @@
--- `options::put_date_word` meets its contract, by what `Opt::is_in` and `put` ensure. Assumes nothing.
+-- Made by tools/make-proofs from tools/answers/options/put_date_word: `options::put_date_word` meets its contract, by what `Opt::is_in` and `put` ensure. Assumes nothing.
+-- Do not edit: `tools/make-proofs --check` compares. Sums of the answers and of what follows: 2102309aeb08ae7e 2260fbc0445aa051.
 use Rattle.options.specs.Settings.{dateWord}
 use mathlib.Core.Path.{_≡_, sym, _∙_}
 use borrow.Author.Needs.{needs}

@@ -1,4 +1,5 @@
--- `options::settings_fault` meets its contract: the code is the definition, by what its callees ensure. Assumes nothing.
+-- Made by tools/make-proofs from tools/answers/options/settings_fault: `options::settings_fault` meets its contract: the code is the definition, by what its callees ensure. Assumes nothing.
+-- Do not edit: `tools/make-proofs --check` compares. Sums of the answers and of what follows: 441c8cb1bffb078f 79301d4ae04572cf.
 use mathlib.Core.Path.{refl, ap, _∙_}
 use lib.IntN.{natAbs}
 use Rattle.options.specs.Settings.{settingsFault}

@@ -1,10 +1,11 @@
--- `options::size_of` meets its contract: by the sign of the shift. Assumes nothing.
+-- Made by tools/make-proofs from tools/answers/options/size_of: `options::size_of` meets its contract: by the sign of the shift. Assumes nothing.
+-- Do not edit: `tools/make-proofs --check` compares. Sums of the answers and of what follows: cde59db65c1405d8 89dd398f1088c756.
 use mathlib.Core.Path.{_≡_, refl}
 use native.Mathlib.Numerals.{add-one}
 use lib.IntN.{pos, negsuc}
 use Rattle.options.proofs.SignLaws.{is-neg, is-pos, minus, there}
-use native.Mathlib.Omega.{arith}
 use borrow.Author.Needs.{needs}
+use native.Mathlib.Omega.{arith}
 use Rattle.options.proofs.size_of.Statement.{statement}
 use Rattle.options.proofs.size_of.Tie as tie
 

@@ -1,4 +1,5 @@
--- `station::finish` meets its contract. Assumes nothing.
+-- Made by tools/make-proofs from tools/answers/station/finish: `station::finish` meets its contract. Assumes nothing.
+-- Do not edit: `tools/make-proofs --check` compares. Sums of the answers and of what follows: a2562958780dc5f4 1106642f097b9c2c.
 use mathlib.Core.Path.{refl}
 use Rattle.station.proofs.FinishLaws.{no-slot, no-room, all-well, few-bytes}
 use borrow.Author.Needs.{needs}

@@ -1,8 +1,9 @@
--- `station::refuse` meets its contract. Assumes nothing.
+-- Made by tools/make-proofs from tools/answers/station/refuse: `station::refuse` meets its contract. Assumes nothing.
+-- Do not edit: `tools/make-proofs --check` compares. Sums of the answers and of what follows: faeb7f4d3e3fa13c da0eab15e605a59a.
 use mathlib.Core.Path.{refl, _∙_}
 use Rattle.station.proofs.LeftLaws.{cleared-zeroed, left-whole, left-cleared}
-use native.Mathlib.Omega.{arith}
 use borrow.Author.Needs.{needs}
+use native.Mathlib.Omega.{arith}
 use Rattle.station.proofs.refuse.Statement.{statement}
 use Rattle.station.proofs.refuse.Tie as tie
 

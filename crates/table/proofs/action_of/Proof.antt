@@ -1,8 +1,9 @@
--- `table::action_of` meets its contract. Assumes nothing.
+-- Made by tools/make-proofs from tools/answers/table/action_of: `table::action_of` meets its contract. Assumes nothing.
+-- Do not edit: `tools/make-proofs --check` compares. Sums of the answers and of what follows: 30078806ff82f57d 4a191e3a733bf4e8.
 use mathlib.Core.Path.{sym, _∙_, ap}
-use borrow.Author.Needs.{needs}
 use Rattle.table.specs.Action.{onRow}
 use Rattle.table.proofs.ActionLaws.{actionOf-ruled, actionOf-row}
+use borrow.Author.Needs.{needs}
 use Rattle.table.proofs.action_of.Statement.{statement}
 use Rattle.table.proofs.action_of.Tie as tie
 

@@ -1,4 +1,5 @@
--- `table::cleans_dates` meets its contract. Assumes nothing.
+-- Made by tools/make-proofs from tools/answers/table/cleans_dates: `table::cleans_dates` meets its contract. Assumes nothing.
+-- Do not edit: `tools/make-proofs --check` compares. Sums of the answers and of what follows: efe39685c8da8ec6 4931c3cdc50c76ca.
 use borrow.Author.Tests.{ne-eqb}
 use Rattle.table.proofs.OverrideLaws.{cleansDates-chosen}
 use Rattle.table.proofs.cleans_dates.Statement.{statement}

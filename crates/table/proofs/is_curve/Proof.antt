@@ -1,4 +1,5 @@
--- `table::is_curve` meets its contract. Assumes nothing.
+-- Made by tools/make-proofs from tools/answers/table/is_curve: `table::is_curve` meets its contract. Assumes nothing.
+-- Do not edit: `tools/make-proofs --check` compares. Sums of the answers and of what follows: d15fb5d0ccb4f5a0 c5b3729b3b9121bc.
 use borrow.Author.Tests.{eq-eqb, ne-eqb}
 use Rattle.table.proofs.is_curve.Statement.{statement}
 use Rattle.table.proofs.is_curve.Tie as tie

@@ -1,4 +1,5 @@
--- `table::is_overlay` meets its contract. Assumes nothing.
+-- Made by tools/make-proofs from tools/answers/table/is_overlay: `table::is_overlay` meets its contract. Assumes nothing.
+-- Do not edit: `tools/make-proofs --check` compares. Sums of the answers and of what follows: a6af1ca0a35abf37 81ca2d434b00049b.
 use mathlib.Core.Bool.{or-false}
 use borrow.Author.Tests.{eq-eqb, ne-eqb}
 use Rattle.basis.specs.Choice.{among}

@@ -1,13 +1,14 @@
--- `table::overriding_letter` meets its contract. The invariant: the letter is what the options passed give together, and what is left of
+-- Made by tools/make-proofs from tools/answers/table/overriding_letter: `table::overriding_letter` meets its contract. The invariant: the letter is what the options passed give together, and what is left of
 -- the option number and of the row begins with the next option. The measure is how many options are left. Assumes nothing.
+-- Do not edit: `tools/make-proofs --check` compares. Sums of the answers and of what follows: bcd454150a6bb068 b537b853cb67e190.
 use mathlib.Core.Logic.{⊎-elim}
 use mathlib.Core.Path.{_≡_, refl, sym, _∙_, ap}
 use Prim.Native.Nat.{_≤_, _-_, _/_, _^_}
 use native.Mathlib.Nat.{div-one, le-antisymm}
-use native.Mathlib.Omega.{arith}
-use borrow.Author.Needs.{needs}
 use Rattle.table.specs.Override.{optionCount, overriding}
 use Rattle.table.proofs.OverrideLaws.{place-next, overriding-chosen, overriding-unchosen}
+use borrow.Author.Needs.{needs}
+use native.Mathlib.Omega.{arith}
 use Rattle.table.proofs.overriding_letter.Statement.{statement}
 use Rattle.table.proofs.overriding_letter.Tie as tie
 

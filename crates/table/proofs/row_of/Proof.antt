@@ -1,14 +1,15 @@
--- `table::row_of` meets its contract. The invariant: every row that was passed has a lesser tag. The measure is how many rows are left.
+-- Made by tools/make-proofs from tools/answers/table/row_of: `table::row_of` meets its contract. The invariant: every row that was passed has a lesser tag. The measure is how many rows are left.
 -- Assumes nothing.
+-- Do not edit: `tools/make-proofs --check` compares. Sums of the answers and of what follows: 9a2f483e96510312 d0ec3f2b329466a2.
 use mathlib.Core.Path.{_≡_, sym, _∙_, ap}
 use mathlib.Core.List.{List}
 use Prim.Native.Nat.{ℕ, _<_, _-_}
-use native.Mathlib.Omega.{arith}
 use lib.ListN.{length, getD}
 use borrow.Author.Count.{below-more}
-use Rattle.table.specs.Rows.{table, rowCount}
+use Rattle.table.specs.Rows.{table}
 use Rattle.table.specs.Table.{tagOf}
 use Rattle.table.proofs.TableLaws.{length-table, rowOf-found, rowOf-passed}
+use native.Mathlib.Omega.{arith}
 use Rattle.table.proofs.row_of.Statement.{statement}
 use Rattle.table.proofs.row_of.Tie as tie
 
@@ -17,13 +18,6 @@ Inv-loop rows tag i₀ i = (k : ℕ) → k < i → tagOf (getD table k 0) < tag
 
 abbrev μ-loop : tie.MeasureT-loop
 μ-loop rows tag i₀ i = length rows - i
-
--- the loop's place is a row's, and the row there is the table's
-within : (c : tie.In-loop Inv-loop μ-loop) → c .before .loop .i < rowCount
-within c = omega (arith, ap length (c .before .before .pre), length-table)
-
-there : (c : tie.In-loop Inv-loop μ-loop) → getD (c .before .before .args .rows .now) (c .before .loop .i) 0 ≡ getD table (c .before .loop .i) 0
-there c = ap (λ (rows : List ℕ). getD rows (c .before .loop .i) 0) (c .before .before .pre)
 
 loop-holds : tie.Need-loop-holds Inv-loop μ-loop
 loop-holds c = λ k h. omega arith
@@ -35,14 +29,10 @@ shared-slice-read-row : tie.Need-shared-slice-read-row Inv-loop μ-loop
 shared-slice-read-row c = omega arith
 
 returns : tie.Need-returns Inv-loop μ-loop
-returns c =
-    let turn = c .before .before .before in
-    there turn ∙ sym (rowOf-found _ _ (within turn) (ap tagOf (sym (there turn)) ∙ c .if2 .taken))
+returns c = ap (λ (rows : List ℕ). getD rows (c .before .before .before .before .loop .i) 0) (c .before .before .before .before .before .pre) ∙ sym (rowOf-found _ _ (omega (arith, ap length (c .before .before .before .before .before .pre), length-table)) (ap tagOf (sym (ap (λ (rows : List ℕ). getD rows (c .before .before .before .before .loop .i) 0) (c .before .before .before .before .before .pre))) ∙ c .if2 .taken))
 
 returns-2 : tie.Need-returns-2 Inv-loop μ-loop
-returns-2 c =
-    let turn = c .before .before .before in
-    sym (rowOf-passed _ (turn .before .loop .i) (turn .before .loop .inv) (λ _. omega (arith, ap tagOf (there turn), c .if2 .left)))
+returns-2 c = sym (rowOf-passed _ (c .before .before .before .before .loop .i) (c .before .before .before .before .loop .inv) (λ _. omega (arith, ap tagOf (ap (λ (rows : List ℕ). getD rows (c .before .before .before .before .loop .i) 0) (c .before .before .before .before .before .pre)), c .if2 .left)))
 
 add-i : tie.Need-add-i Inv-loop μ-loop
 add-i c = omega arith
@@ -51,14 +41,10 @@ loop-less : tie.Need-loop-less Inv-loop μ-loop
 loop-less c = omega arith
 
 loop-again : tie.Need-loop-again Inv-loop μ-loop
-loop-again c =
-    let turn = c .before .before in
-    below-more _ _ (turn .before .loop .inv) (omega (arith, ap tagOf (there turn)))
+loop-again c = below-more _ _ (c .before .before .before .loop .inv) (omega (arith, ap tagOf (ap (λ (rows : List ℕ). getD rows (c .before .before .before .loop .i) 0) (c .before .before .before .before .pre))))
 
 returns-3 : tie.Need-returns-3 Inv-loop μ-loop
-returns-3 c =
-    let at = c .before in
-    sym (rowOf-passed _ (at .loop .i) (at .loop .inv) (λ l. omega (arith, ap length (at .before .pre), length-table)))
+returns-3 c = sym (rowOf-passed _ (c .before .loop .i) (c .before .loop .inv) (λ l. omega (arith, ap length (c .before .before .pre), length-table)))
 
 pub row-of-spec : {M : Type 1} → statement M
 row-of-spec =

@@ -1,4 +1,5 @@
--- `table::stronger_of` meets its contract. Assumes nothing.
+-- Made by tools/make-proofs from tools/answers/table/stronger_of: `table::stronger_of` meets its contract. Assumes nothing.
+-- Do not edit: `tools/make-proofs --check` compares. Sums of the answers and of what follows: 0ecace05c662e347 f178acb3dcba541c.
 use borrow.Author.Tests.{eq-eqb, ne-eqb}
 use Rattle.table.proofs.stronger_of.Statement.{statement}
 use Rattle.table.proofs.stronger_of.Tie as tie

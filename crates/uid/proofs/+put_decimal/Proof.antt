@@ -1,8 +1,11 @@
--- `put_decimal` meets its contract. It calls itself with a tenth of the number, which is the measure. Assumes nothing.
-use borrow.Author.Needs.{needs}
-use native.Mathlib.Omega.{arith}
+-- Made by tools/make-proofs from tools/answers/uid/+put_decimal: `put_decimal` meets its contract. It calls itself with a tenth of the number, which is the measure. Assumes nothing.
+-- Do not edit: `tools/make-proofs --check` compares. Sums of the answers and of what follows: 887fab81beffe475 6f0a45f6eb26bdd6.
 use Rattle.uid.proofs.NewUidLaws.{length-decimal-small, length-decimal-more}
 use Rattle.uid.proofs.PutLaws.{put-small, put-more}
+use Prim.Native.Nat.{ℕ, _<_}
+use Rattle.uid.proofs.+put_decimal.Lts-put_decimal as put-decimal-lts
+use borrow.Author.Needs.{needs}
+use native.Mathlib.Omega.{arith}
 use Prim.Native.Nat.{ℕ, _<_}
 use borrow.Fn.Kinds.{In, Out}
 use borrow.Fn.PlainCycle.{Measures, is, falls, and}

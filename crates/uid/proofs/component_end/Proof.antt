@@ -1,10 +1,11 @@
--- `component_end` meets its contract. The loop's invariant: the digits from e on end where those from a on do. Assumes nothing.
+-- Made by tools/make-proofs from tools/answers/uid/component_end: `component_end` meets its contract. The loop's invariant: the digits from e on end where those from a on do. Assumes nothing.
+-- Do not edit: `tools/make-proofs --check` compares. Sums of the answers and of what follows: 4a801a72cab8d0a8 9ea48632133217b1.
 use mathlib.Core.Path.{_≡_, sym, ap, _∙_}
 use Prim.Native.Nat.{_+_, _-_, _≤_}
 use Rattle.basis.specs.Bytes.{part}
 use Rattle.uid.specs.Scan.{digits, lead}
-use Rattle.uid.proofs.UidLaws.{isDigit-yes, isDigit-low, isDigit-high}
-use Rattle.uid.proofs.PieceTurns.{digits-more, digits-found, digits-last, lead-nought, lead-digits, lead-past}
+use Rattle.basis.proofs.TextLaws.{isDigit-yes, isDigit-low, isDigit-high}
+use Rattle.uid.proofs.ComponentTurns.{digits-more, digits-found, digits-last, lead-zero, lead-digits, lead-past}
 use native.Mathlib.Omega.{arith}
 use Rattle.uid.proofs.component_end.Statement.{statement}
 use Rattle.uid.proofs.component_end.Tie as tie
@@ -25,7 +26,7 @@ add-result : tie.Need-add-result Inv-loop μ-loop
 add-result c = omega arith
 
 returns-2 : tie.Need-returns-2 Inv-loop μ-loop
-returns-2 c = lead-nought _ _ _ (omega arith) (c .before .before .before .pre .1) (c .if2 .taken)
+returns-2 c = lead-zero _ _ _ (omega arith) (c .before .before .before .pre .1) (c .if2 .taken)
 
 loop-holds : tie.Need-loop-holds Inv-loop μ-loop
 loop-holds c = (omega arith, omega arith, ap (λ n. c .before .before .before .args .a + n) (sym (lead-digits _ _ _ (omega arith) (c .before .before .before .pre .1) (c .if2 .left))))

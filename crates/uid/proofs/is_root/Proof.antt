@@ -1,7 +1,8 @@
--- `is_root` meets its contract: the part that it asks about is the whole. Assumes nothing.
+-- Made by tools/make-proofs from tools/answers/uid/is_root: `is_root` meets its contract: the part that it asks about is the whole. Assumes nothing.
+-- Do not edit: `tools/make-proofs --check` compares. Sums of the answers and of what follows: fbda8856234dc810 1bf1edfaac92ed33.
 use mathlib.Core.Path.{ap, _∙_}
+use Rattle.basis.proofs.BytesLaws.{part-all}
 use Rattle.uid.specs.Uid.{isRoot}
-use Rattle.uid.proofs.PartLaws.{part-all}
 use borrow.Author.Needs.{needs}
 use Rattle.uid.proofs.is_root.Statement.{statement}
 use Rattle.uid.proofs.is_root.Tie as tie

@@ -1,7 +1,8 @@
--- `is_uid_upto` meets its contract: one law for each way out. Assumes nothing.
+-- Made by tools/make-proofs from tools/answers/uid/is_uid_upto: `is_uid_upto` meets its contract: one law for each way out. Assumes nothing.
+-- Do not edit: `tools/make-proofs --check` compares. Sums of the answers and of what follows: e5274adb66567e19 2f6414b122f92da3.
 use Rattle.uid.proofs.UidTurns.{upto-long, upto-none, upto-span}
-use native.Mathlib.Omega.{arith}
 use borrow.Author.Needs.{needs}
+use native.Mathlib.Omega.{arith}
 use Rattle.uid.proofs.is_uid_upto.Statement.{statement}
 use Rattle.uid.proofs.is_uid_upto.Tie as tie
 

@@ -1,8 +1,9 @@
--- `put_uid` meets its contract: what its three calls leave is one write. Assumes nothing.
+-- Made by tools/make-proofs from tools/answers/uid/put_uid: `put_uid` meets its contract: what its three calls leave is one write. Assumes nothing.
+-- Do not edit: `tools/make-proofs --check` compares. Sums of the answers and of what follows: 228e0ebb4224dda8 01b61742d37f526f.
 use Rattle.uid.proofs.NewUidLaws.{length-newUid}
 use Rattle.uid.proofs.PutLaws.{put-whole}
-use native.Mathlib.Omega.{arith}
 use borrow.Author.Needs.{needs}
+use native.Mathlib.Omega.{arith}
 use Rattle.uid.proofs.put_uid.Statement.{statement}
 use Rattle.uid.proofs.put_uid.Tie as tie
 

@@ -1,7 +1,8 @@
--- `trimmed_end` meets its contract: one law for each way out. Assumes nothing.
+-- Made by tools/make-proofs from tools/answers/uid/trimmed_end: `trimmed_end` meets its contract: one law for each way out. Assumes nothing.
+-- Do not edit: `tools/make-proofs --check` compares. Sums of the answers and of what follows: d87dc427d5477494 416bc0b5e1eace15.
 use Rattle.uid.proofs.PadLaws.{trimmed-none, trimmed-zero, trimmed-same}
-use native.Mathlib.Omega.{arith}
 use borrow.Author.Needs.{needs}
+use native.Mathlib.Omega.{arith}
 use Rattle.uid.proofs.trimmed_end.Statement.{statement}
 use Rattle.uid.proofs.trimmed_end.Tie as tie
 

@@ -1,4 +1,5 @@
--- `uid_end` meets its contract: one law for each way on or out of its loop. Assumes nothing.
+-- Made by tools/make-proofs from tools/answers/uid/uid_end: `uid_end` meets its contract: one law for each way on or out of its loop. Assumes nothing.
+-- Do not edit: `tools/make-proofs --check` compares. Sums of the answers and of what follows: d35495cbfb5ca83b 5441c53becfe43e4.
 use Prim.Native.Nat.{_-_}
 use Rattle.uid.proofs.UidTurns.{Onward, onward-start, onward-none, onward-whole, onward-inside, onward-slash, onward-other, onward-go}
 use native.Mathlib.Omega.{arith}

@@ -1,4 +1,5 @@
--- `uids_fault` meets its contract: one law for each way before its loop, on in it or out of it. Assumes nothing.
+-- Made by tools/make-proofs from tools/answers/uid/uids_fault: `uids_fault` meets its contract: one law for each way before its loop, on in it or out of it. Assumes nothing.
+-- Do not edit: `tools/make-proofs --check` compares. Sums of the answers and of what follows: b22c1bd75cb9a9db bd7382f1aca28a96.
 use Rattle.uid.proofs.FaultTurns.{fault-none, fault-odd, Judging, fault-start, fault-over, fault-bad, fault-long, fault-last, fault-inside, fault-go}
 use native.Mathlib.Omega.{arith}
 use Rattle.uid.proofs.uids_fault.Statement.{statement}

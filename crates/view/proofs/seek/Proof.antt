@@ -1,18 +1,12 @@
--- `view::seek` meets its contract. Assumes nothing.
+-- Made by tools/make-proofs from tools/answers/view/seek: `view::seek` meets its contract: each way through the loop is a law of `proofs/SearchLaws.antt`. Assumes nothing.
+-- Do not edit: `tools/make-proofs --check` compares. Sums of the answers and of what follows: 1f65357de880a415 8f9e5107e0710539.
 use Prim.Native.Nat.{_-_}
 use lib.ListN.{length}
-use Rattle.layout.specs.Walks.{Inside}
-use Rattle.layout.specs.declared.Head.the-variants.{Plain, Seq}
-use Rattle.view.proofs.ViewLaws.{Seeking, start, stop-bad, stop-end, go-plain, stop-seq, go-seq}
+use Rattle.view.proofs.SearchLaws.{Seeking, start, stop-bad, stop-end, go-plain, stop-seq, go-seq, plain-lies, sequence-lies, items-end}
 use borrow.Author.Needs.{needs}
 use native.Mathlib.Omega.{arith}
 use Rattle.view.proofs.seek.Statement.{statement}
 use Rattle.view.proofs.seek.Tie as tie
-use Rattle.view.proofs.seek.Reads as reads
-use Rattle.view.proofs.seek.Lts as lts
-use Rattle.layout.proofs.element_head.Reads as element-head-reads
-use Rattle.layout.proofs.sequence.Reads as sequence-reads
-use Rattle.view.proofs.met.Reads as met-reads
 
 abbrev Inv-loop : tie.InvT-loop
 Inv-loop s wanted at₀ low₀ got₀ at low got = Seeking s wanted at low got
@@ -45,14 +39,10 @@ met-requires : tie.Need-met-requires Inv-loop μ-loop
 met-requires c κs = search needs
 
 add-low : tie.Need-add-low Inv-loop μ-loop
-add-low c =
-    let v : Inside (c .before .before .before .before .before .loop .at) (length (c .before .before .before .before .before .before .before .args .s .now)) (Plain (c .before .before .h2 .given .0 .0) (c .before .before .h2 .given .0 .1 .0) (c .before .before .h2 .given .0 .1 .1 .0) (c .before .before .h2 .given .0 .1 .1 .1 .0)) = rw (c .before .before .h2 .given .1) at (c .before .before .before .before .element-head .ensures .1) in
-    omega arith
+add-low c = omega (arith, plain-lies (c .before .before .before .before .before .loop .at) (length (c .before .before .before .before .before .before .before .args .s .now)) (c .before .before .h2 .given .1) (c .before .before .before .before .element-head .ensures .1))
 
 loop-less : tie.Need-loop-less Inv-loop μ-loop
-loop-less c =
-    let v : Inside (c .before .before .before .before .before .loop .at) (length (c .before .before .before .before .before .before .before .args .s .now)) (Plain (c .before .before .h2 .given .0 .0) (c .before .before .h2 .given .0 .1 .0) (c .before .before .h2 .given .0 .1 .1 .0) (c .before .before .h2 .given .0 .1 .1 .1 .0)) = rw (c .before .before .h2 .given .1) at (c .before .before .before .before .element-head .ensures .1) in
-    omega arith
+loop-less c = omega (arith, plain-lies (c .before .before .before .before .before .loop .at) (length (c .before .before .before .before .before .before .before .args .s .now)) (c .before .before .h2 .given .1) (c .before .before .before .before .element-head .ensures .1))
 
 loop-again : tie.Need-loop-again Inv-loop μ-loop
 loop-again c = go-plain (c .before .before .before .before .before .loop .inv) (c .before .before .before .before .element-head .ensures .0) (c .before .before .before .before .element-head .ensures .1) _ _ _ _ (c .before .before .h2 .given .1) (c .met .ensures)
@@ -61,9 +51,7 @@ enum-known-h-3 : tie.Need-enum-known-h-3 Inv-loop μ-loop
 enum-known-h-3 c = search needs
 
 sequence-requires : tie.Need-sequence-requires Inv-loop μ-loop
-sequence-requires c κs =
-    let v : Inside (c .before .before .before .before .loop .at) (length (c .before .before .before .before .before .before .args .s .now)) (Seq (c .before .h3 .given .0 .0) (c .before .h3 .given .0 .1 .0) (c .before .h3 .given .0 .1 .1 .0) (c .before .h3 .given .0 .1 .1 .1 .0)) = rw (c .before .h3 .given .1) at (c .before .before .before .element-head .ensures .1) in
-    omega arith
+sequence-requires c κs = omega (arith, sequence-lies (c .before .before .before .before .loop .at) (length (c .before .before .before .before .before .before .args .s .now)) (c .before .h3 .given .1) (c .before .before .before .element-head .ensures .1))
 
 enum-known-q : tie.Need-enum-known-q Inv-loop μ-loop
 enum-known-q c = search needs
@@ -78,14 +66,10 @@ met-requires-2 : tie.Need-met-requires-2 Inv-loop μ-loop
 met-requires-2 c κs = search needs
 
 add-low-2 : tie.Need-add-low-2 Inv-loop μ-loop
-add-low-2 c =
-    let v : Inside (c .before .before .before .before .before .before .before .before .before .loop .at) (length (c .before .before .before .before .before .before .before .before .before .before .before .args .s .now)) (Seq (c .before .before .before .before .before .before .h3 .given .0 .0) (c .before .before .before .before .before .before .h3 .given .0 .1 .0) (c .before .before .before .before .before .before .h3 .given .0 .1 .1 .0) (c .before .before .before .before .before .before .h3 .given .0 .1 .1 .1 .0)) = rw (c .before .before .before .before .before .before .h3 .given .1) at (c .before .before .before .before .before .before .before .before .element-head .ensures .1) in
-    omega arith
+add-low-2 c = omega (arith, sequence-lies (c .before .before .before .before .before .before .before .before .before .loop .at) (length (c .before .before .before .before .before .before .before .before .before .before .before .args .s .now)) (c .before .before .before .before .before .before .h3 .given .1) (c .before .before .before .before .before .before .before .before .element-head .ensures .1))
 
 loop-less-2 : tie.Need-loop-less-2 Inv-loop μ-loop
-loop-less-2 c =
-    let v : Inside (c .before .before .before .before .before .before .before .before .before .loop .at) (length (c .before .before .before .before .before .before .before .before .before .before .before .args .s .now)) (Seq (c .before .before .before .before .before .before .h3 .given .0 .0) (c .before .before .before .before .before .before .h3 .given .0 .1 .0) (c .before .before .before .before .before .before .h3 .given .0 .1 .1 .0) (c .before .before .before .before .before .before .h3 .given .0 .1 .1 .1 .0)) = rw (c .before .before .before .before .before .before .h3 .given .1) at (c .before .before .before .before .before .before .before .before .element-head .ensures .1) in
-    omega (arith, (rw (c .before .before .q2 .given .1) at (c .before .before .before .before .sequence .ensures .stays)) .0)
+loop-less-2 c = omega (arith, sequence-lies (c .before .before .before .before .before .before .before .before .before .loop .at) (length (c .before .before .before .before .before .before .before .before .before .before .before .args .s .now)) (c .before .before .before .before .before .before .h3 .given .1) (c .before .before .before .before .before .before .before .before .element-head .ensures .1), items-end (c .before .before .q2 .given .1) (c .before .before .before .before .sequence .ensures .stays))
 
 loop-again-2 : tie.Need-loop-again-2 Inv-loop μ-loop
 loop-again-2 c = go-seq (c .before .before .before .before .before .before .before .before .before .loop .inv) (c .before .before .before .before .before .before .before .before .element-head .ensures .0) (c .before .before .before .before .before .before .before .before .element-head .ensures .1) (c .before .before .before .before .before .before .h3 .given .1) (c .before .before .before .before .sequence .ensures) _ (c .before .before .q2 .given .1) (c .met2 .ensures)

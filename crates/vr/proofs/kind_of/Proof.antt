@@ -9,7 +9,7 @@ use types.Run.{OneOf}
 use Rattle.basis.specs.Choice.{among}
 use Rattle.basis.proofs.ChoiceLaws.{arm, among-none, among-join, among-less, eqb-less}
 use Rattle.vr.specs.Names.{AE, AS, AT, CS, DA, DS, DT, FD, FL, IS, LO, LT, OB, OD, OF, OL, OV, OW, PN, SH, SL, SQ, SS, ST, SV, TM, UC, UI, UL, UN, UR, US, UT, UV}
-use Rattle.vr.specs.Vr.{kindOf, known}
+use Rattle.vr.specs.Vr.{kindOf, allVrs}
 use Rattle.vr.proofs.VrLaws.{kindOf-unknown}
 use Rattle.vr.specs.declared.Kind.the-variants.{Unknown, Short, Long, Sequence}
 use Rattle.vr.proofs.kind_of.Statement.{statement}
@@ -57,12 +57,12 @@ untaken vr n1 n2 n3 n4 =
     (among-none vr arm3 n3)
     (among-none vr arm4 n4)))
 
-covers-known : map (λ k. among k taken) known ≡ replicate 34 true
+covers-allVrs : map (λ k. among k taken) allVrs ≡ replicate 34 true
 unfolding among
-covers-known = refl
+covers-allVrs = refl
 
 rest : (vr : ℕ) → among vr taken ≡ false → Unknown ≡ kindOf vr
-rest vr none = sym (kindOf-unknown vr (among-less vr known taken covers-known none))
+rest vr none = sym (kindOf-unknown vr (among-less vr allVrs taken covers-allVrs none))
 
 returns-5 : tie.Need-returns-5
 returns-5 c =

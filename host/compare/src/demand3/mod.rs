@@ -15,7 +15,7 @@ mod tree;
 mod twins;
 
 use tree::{Node, bytes_of, tree_of};
-use twins::{Twin, alter, alter_name};
+use twins::{Twin, alter, alter_uid};
 
 use crate::export::comparison::Comparison;
 use crate::export::{Ledger, Outcome, Run, Settings, entry, most_room};
@@ -65,13 +65,13 @@ impl Pairs {
         alter_one(&mut altered_twin, random);
         let mut altered = batch.clone();
         alter_one(&mut altered, random);
-        let mut names_altered = batch.clone();
-        alter_name(&mut names_altered, fates, random);
+        let mut uid_altered = batch.clone();
+        alter_uid(&mut uid_altered, fates, random);
         let others = [
             ("twin", twin),
             ("altered twin", altered_twin),
             ("altered self", altered),
-            ("self with one UID altered", names_altered),
+            ("self with one UID altered", uid_altered),
         ];
         for (what, other) in others {
             let Some(second) = run(&other, &settings, random, station) else {

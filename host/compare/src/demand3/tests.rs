@@ -69,7 +69,7 @@ fn failures(station: fn(&Run) -> Outcome) -> u64 {
 
 #[test]
 fn the_second_program_meets_demand_3() {
-    assert_eq!(failures(|run| run.expected()), 0);
+    assert_eq!(failures(|run: &Run| run.expected()), 0);
 }
 
 #[test]
@@ -97,7 +97,7 @@ fn a_station_that_copies_its_input_fails() {
 }
 
 #[test]
-fn a_station_that_renames_every_uid_to_one_name_fails() {
+fn a_station_that_renames_every_uid_to_one_uid_fails() {
     // Planted faults are planted for the whole program, so this one is made by hand.
     let all_one = |run: &Run| {
         let mut right = run.expected();

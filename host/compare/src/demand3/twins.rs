@@ -16,16 +16,17 @@ use crate::values::{padded, uid, value};
 pub const TASTE: Taste = Taste { any_vr: 400, any_spine: 4, judged: 4, sizes: &[5, 10, 20, 30] };
 
 /// Makes a batch with the same kept content, up to one renaming: what is removed comes and goes, what is
-/// hidden is made up anew, and UIDs get other names.
+/// hidden is made up anew, and UIDs give way to others.
 pub struct Twin<'t> {
     pub fates: &'t mut Fates,
     pub random: &'t mut Random,
-    names: HashMap<Bytes, Bytes>,
+    /// For each UID met so far, the one in its place.
+    others: HashMap<Bytes, Bytes>,
 }
 
 impl<'t> Twin<'t> {
     pub fn new(fates: &'t mut Fates, random: &'t mut Random) -> Twin<'t> {
-        Twin { fates, random, names: HashMap::new() }
+        Twin { fates, random, others: HashMap::new() }
     }
 
     pub fn batch(&mut self, batch: &[Vec<Node>]) -> Vec<Vec<Node>> {
@@ -78,15 +79,15 @@ impl<'t> Twin<'t> {
 
     fn renamed(&mut self, node: &Node) -> Node {
         let Contents::Value(old) = &node.contents else { return node.clone() };
-        let uids: Vec<Bytes> = uids_in(old).into_iter().map(|uid| self.name(uid)).collect();
+        let uids: Vec<Bytes> = uids_in(old).into_iter().map(|uid| self.other(uid)).collect();
         Node { contents: Contents::Value(padded(uids.join(&b'\\'), 0)), ..node.clone() }
     }
 
-    /// The new name of a UID, the same each time and no other UID's. The last part tells them apart.
-    fn name(&mut self, uid: Bytes) -> Bytes {
-        let next = self.names.len();
+    /// The UID in the place of this one, the same each time and in no other's place. The last part tells them apart.
+    fn other(&mut self, uid: Bytes) -> Bytes {
+        let next = self.others.len();
         let swapped = self.random.pick(&["1.2.840", "2.25", "1.9"]);
-        self.names.entry(uid).or_insert_with(|| format!("{swapped}.77.{next}").into()).clone()
+        self.others.entry(uid).or_insert_with(|| format!("{swapped}.77.{next}").into()).clone()
     }
 
     fn walked(&mut self, node: &Node) -> Node {
@@ -166,10 +167,10 @@ fn altered_value(vr: [u8; 2], old: &[u8], random: &mut Random) -> Bytes {
     new
 }
 
-/// Gives one UID that is renamed another name at one place: one that the batch has elsewhere, or a new one. If
-/// the UID stands at that place alone and the name is new, kept content stays the same. Nothing is done to a
-/// batch without UIDs.
-pub fn alter_name(batch: &mut [Vec<Node>], fates: &mut Fates, random: &mut Random) {
+/// Puts another UID in the place of one that is renamed, at one place: one that the batch has elsewhere, or a new
+/// one. If the old UID stands at that place alone and the other is new, kept content stays the same. Nothing is done
+/// to a batch without UIDs.
+pub fn alter_uid(batch: &mut [Vec<Node>], fates: &mut Fates, random: &mut Random) {
     let mut values = Vec::new();
     batch.iter_mut().for_each(|nodes| renamed_values(nodes, true, fates, &mut values));
     if values.is_empty() {

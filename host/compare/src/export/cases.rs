@@ -24,8 +24,8 @@ impl Case {
         let count = random.pick(&[1, 1, 1, 1, 1, 1, 2, 3, 5]);
         let mut made = Vec::new();
         let sets: Vec<DataSet> = (0..count).map(|_| data_set(random, &mut made)).collect();
-        let mut tags: Vec<u32> = sets.iter().flat_map(|set| set.top_level_tags()).collect();
-        tags.extend(sets.iter().flat_map(|set| set.item_tags()));
+        let mut tags: Vec<u32> = sets.iter().flat_map(DataSet::top_level_tags).collect();
+        tags.extend(sets.iter().flat_map(DataSet::item_tags));
         let uids: Vec<Bytes> = sets.iter().flat_map(uids_of).collect();
         let whole: Vec<Bytes> = sets.iter().map(|set| set.bytes.clone()).collect();
 

@@ -17,7 +17,8 @@ mod settings;
 mod tests;
 
 pub use ledgers::Ledger;
-pub use library::{Report, Request};
+pub use library::Request;
+pub use library::numbers::Report;
 pub use lists::entry;
 pub use settings::Settings;
 pub use stations::{Station, proved, second};

@@ -8,7 +8,7 @@ mod tests;
 
 use cases::Case;
 use edges::Edge;
-pub use library::Answer;
+pub use library::numbers::Answer;
 
 use crate::lent::Lent;
 use crate::shrink::shrunk;
@@ -18,7 +18,7 @@ pub type View = fn(&Lent, u64) -> Answer;
 
 /// The proved library's.
 pub fn proved(lent: &Lent, tag: u64) -> Answer {
-    library::view(lent.data(), tag)
+    library::numbers::view(lent.data(), tag)
 }
 
 /// The second program's.

@@ -34,6 +34,42 @@ fn wrong_calls_are_told() {
 }
 
 #[test]
+fn every_report_says_how_it_ended() {
+    let folder = Folder::new();
+    folder.file("in", jane());
+    folder.file("damaged", "damaged");
+    let out = |words: &[&str]| folder.run(&[words, &["--json"]].concat()).out;
+    let export = ["export", "in", "out", "--root", "1"];
+    for well in [&export[..], &["view", "in", "0010,0010"], &["dump", "in"], &["explain"]] {
+        assert!(out(well).contains("\"refusal\":null,\"error\":null"), "{well:?}");
+    }
+    let both_dates = ["--keep", "full-dates,modified-dates"];
+    for (refused, number) in [
+        ([&export[..], &both_dates].concat(), 1),
+        ([&["explain"][..], &both_dates].concat(), 1),
+        (vec!["view", "damaged", "0010,0010"], 6),
+        (vec!["dump", "damaged"], 6),
+    ] {
+        let refusal = format!("\"refusal\":{{\"number\":{number},\"offset\":0,\"condition\":\"");
+        let out = out(&refused);
+        assert!(out.contains(&refusal) && out.contains("\"},\"error\":null"), "{refused:?}: {out}");
+    }
+    for (wrong, input) in [
+        (&export[..3], "null"),
+        (&["export", "none", "out", "--root", "1"], "\"none\""),
+        (&["view", "in", "name"], "null"),
+        (&["view", "none", "0010,0010"], "\"none\""),
+        (&["dump"], "null"),
+        (&["dump", "none"], "\"none\""),
+        (&["explain", "in"], "null"),
+    ] {
+        let error = format!("\"refusal\":null,\"error\":{{\"input\":{input},\"what\":\"");
+        let out = out(wrong);
+        assert!(out.contains(&error), "{wrong:?}: {out}");
+    }
+}
+
+#[test]
 fn files_that_are_not_what_they_must_be_are_told() {
     let folder = Folder::new();
     folder.file("in", jane());

@@ -63,6 +63,25 @@ fn a_damaged_data_set_is_listed_up_to_its_fault() {
 }
 
 #[test]
+fn a_listing_for_programs() {
+    let folder = Folder::new();
+    folder.file("in", nested());
+    let listed = "{\"depth\":0,\"tag\":\"(0008,0060)\",\"vr\":\"CS\",\"name\":\"Modality\",\"length\":2,\"text\":\"MR\"},\
+                  {\"depth\":0,\"tag\":\"(0008,1140)\",\"vr\":\"SQ\",\"name\":\"Referenced Image Sequence\",\
+                  \"length\":null,\"text\":null},{\"depth\":1,\"item\":1},{\"depth\":1,\"tag\":\"(0008,1155)\",\
+                  \"vr\":\"UI\",\"name\":\"Referenced SOP Instance UID\",\"length\":6,\"text\":\"1.2.77\"},\
+                  {\"depth\":0,\"tag\":\"(0010,0010)\",\"vr\":\"PN\",\"name\":\"Patient's Name\",\"length\":8,\
+                  \"text\":\"Doe^Jane\"},{\"depth\":0,\"tag\":\"(0028,0010)\",\"vr\":\"US\",\"name\":\"Rows\",\
+                  \"length\":2,\"text\":null}]}\n";
+    let report = format!("{{\"input\":\"in\",\"refusal\":null,\"error\":null,\"elements\":[{listed}");
+    assert_eq!(folder.run(&["dump", "in", "--json"]).succeeds().out, report);
+    folder.file("in", [nested(), vec![0; 8]].concat());
+    let ran = folder.run(&["dump", "--json", "in"]);
+    assert!(ran.refused(7).out.contains("\"refusal\":{\"number\":7,\"offset\":70,"), "{}", ran.out);
+    assert!(ran.out.ends_with(listed), "listed up to the fault: {}", ran.out);
+}
+
+#[test]
 fn an_empty_data_set_has_no_lines() {
     let folder = Folder::new();
     folder.file("in", "");

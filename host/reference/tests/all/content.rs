@@ -146,8 +146,8 @@ impl Maker {
             Node::Kept { tag, vr, value } => element(*tag, vr, value),
             Node::Replaced { tag, vr } => self.hidden(*tag, vr),
             Node::Renamed { tag, uids } => {
-                let name = |uid: &usize| format!("{}.{}", self.arc, uid * self.factor);
-                let mut value = uids.iter().map(name).collect::<Vec<_>>().join("\\");
+                let text = |uid: &usize| format!("{}.{}", self.arc, uid * self.factor);
+                let mut value = uids.iter().map(text).collect::<Vec<_>>().join("\\");
                 if value.len() % 2 == 1 {
                     value.push('\0');
                 }

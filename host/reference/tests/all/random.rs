@@ -70,7 +70,7 @@ fn damaged_data_sets_are_exported_or_refused_and_both_entries_agree_on_their_sha
 
 #[test]
 fn an_export_goes_through_again_and_keeps_its_length() {
-    // The second run has the same kept content but for the names, which have as many digits, and the markers,
+    // The second run has the same kept content but for the UIDs, which have as many digits, and the markers,
     // which are removed and written anew.
     for seed in 0..500 {
         let mut rng = Rng::new(seed);

@@ -68,7 +68,7 @@ fn the_same_with_the_list_gives_154_bytes() {
 }
 
 #[test]
-fn equal_uids_get_one_name_and_one_slot() {
+fn equal_uids_get_one_new_uid_and_one_slot() {
     let data = [element(STUDY_INSTANCE_UID, "UI", "1.2.3\0"), element(SERIES_INSTANCE_UID, "UI", "1.2.3\0")];
     let renamed =
         [element(STUDY_INSTANCE_UID, "UI", "1.9.1\0"), element(SERIES_INSTANCE_UID, "UI", "1.9.1\0")];
@@ -78,7 +78,7 @@ fn equal_uids_get_one_name_and_one_slot() {
 }
 
 #[test]
-fn different_uids_get_two_names() {
+fn different_uids_get_two_new_uids() {
     let data = [element(STUDY_INSTANCE_UID, "UI", "1.2.3\0"), element(SERIES_INSTANCE_UID, "UI", "1.2.4\0")];
     let renamed =
         [element(STUDY_INSTANCE_UID, "UI", "1.9.1\0"), element(SERIES_INSTANCE_UID, "UI", "1.9.2\0")];
@@ -142,8 +142,8 @@ fn a_thousand_uids_are_accepted_and_1001_refused_with_11() {
         }
         element(STUDY_INSTANCE_UID, "UI", value)
     };
-    let mut names = vec!["1.9.1"; 1_000].join("\\");
-    names.push('\0');
-    Station::default().expect_export(&[uids(1_000)], &[element(STUDY_INSTANCE_UID, "UI", names)]);
+    let mut new_uids = vec!["1.9.1"; 1_000].join("\\");
+    new_uids.push('\0');
+    Station::default().expect_export(&[uids(1_000)], &[element(STUDY_INSTANCE_UID, "UI", new_uids)]);
     Station::default().expect_refusal(&[uids(1_001)], 11, 0);
 }

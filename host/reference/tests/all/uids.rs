@@ -251,7 +251,7 @@ fn u13_refusals_13_and_14_enter_nothing_in_the_ledger() {
 }
 
 #[test]
-fn u14_a_uid_that_looks_like_a_new_name_is_renamed_like_any_other() {
+fn u14_a_uid_that_looks_like_a_new_one_is_renamed_like_any_other() {
     Station::default().expect_export(
         &[padded_ui(SOP_INSTANCE_UID, "1.9.2\\1.9.1\\1.9")],
         &[padded_ui(SOP_INSTANCE_UID, "1.9.1\\1.9.2\\1.9.3")],
@@ -267,7 +267,7 @@ fn u15_a_ledger_of_no_slots() {
 }
 
 #[test]
-fn names_have_as_many_digits_as_their_number() {
+fn new_uids_have_as_many_digits_as_their_number() {
     let uids = |from: u32, to: u32, prefix: &str| {
         (from..=to).map(|number| format!("{prefix}{number}")).collect::<Vec<_>>().join("\\")
     };

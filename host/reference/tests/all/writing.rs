@@ -376,11 +376,11 @@ fn w16_the_longest_meaning_and_the_dates_words() {
 
 #[test]
 fn w18_the_longest_renamed_value_fits_its_length_field() {
-    let names = 1_000;
+    let count = 1_000;
     let station = Station { root: vec![b'7'; 59], ..Station::with_ledger(&vec![slot("x"); 1_024], 1_023) };
-    let value = vec!["1"; names].join("\\") + "\0";
-    let new_name = "7".repeat(59) + ".1024";
-    let written = vec![new_name; names].join("\\") + "\0";
+    let value = vec!["1"; count].join("\\") + "\0";
+    let new_uid = "7".repeat(59) + ".1024";
+    let written = vec![new_uid; count].join("\\") + "\0";
     assert_eq!(written.len(), 65_000);
     let station = Station { room: Some(70_000), ..station };
     station.expect_export(

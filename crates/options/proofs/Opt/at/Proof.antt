@@ -1,4 +1,5 @@
--- `Opt::at` meets its contract: one law over the option for the six bits, one for the others. Assumes nothing.
+-- Made by tools/make-proofs from tools/answers/options/Opt/at: `Opt::at` meets its contract: one law over the option for the six bits, one for the others. Assumes nothing.
+-- Do not edit: `tools/make-proofs --check` compares. Sums of the answers and of what follows: 2b409377ca0e60d8 5ef0c59f60015095.
 use mathlib.Core.Path.{_≡_, sym, ap, _∙_}
 use Rattle.options.specs.Options.{chosenOf}
 use Rattle.options.specs.declared.Opt.the-variants.{FullDates, ModifiedDates, PatientCharacteristics, DeviceIdentity, RetainUids, InstitutionIdentity}

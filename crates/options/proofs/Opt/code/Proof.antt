@@ -1,4 +1,5 @@
--- `Opt::code` meets its contract, option by option. Assumes nothing.
+-- Made by tools/make-proofs from tools/answers/options/Opt/code: `Opt::code` meets its contract, option by option. Assumes nothing.
+-- Do not edit: `tools/make-proofs --check` compares. Sums of the answers and of what follows: 28a8c512cba61458 5c2073e45965c2c7.
 use mathlib.Core.Path.{refl}
 use borrow.Author.Needs.{needs}
 use Rattle.options.proofs.Opt.code.Statement.{statement}

@@ -1,4 +1,5 @@
--- `Opt::if_in` meets its contract. Assumes nothing.
+-- Made by tools/make-proofs from tools/answers/options/Opt/if_in: `Opt::if_in` meets its contract. Assumes nothing.
+-- Do not edit: `tools/make-proofs --check` compares. Sums of the answers and of what follows: ebd9db34f4f369e7 d1771eeae02a5742.
 use mathlib.Core.Path.{refl, sym, _∙_}
 use borrow.Author.Needs.{needs}
 use Rattle.options.proofs.Opt.if_in.Statement.{statement}

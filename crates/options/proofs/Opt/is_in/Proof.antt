@@ -1,4 +1,5 @@
--- `Opt::is_in` meets its contract, option by option. Assumes nothing.
+-- Made by tools/make-proofs from tools/answers/options/Opt/is_in: `Opt::is_in` meets its contract, option by option. Assumes nothing.
+-- Do not edit: `tools/make-proofs --check` compares. Sums of the answers and of what follows: fbdea6e1271bbdcb 2312adea32c4221a.
 use mathlib.Core.Path.{refl}
 use borrow.Author.Needs.{needs}
 use Rattle.options.proofs.Opt.is_in.Statement.{statement}

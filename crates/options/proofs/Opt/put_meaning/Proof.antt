@@ -1,5 +1,5 @@
--- `Opt::put_meaning` meets its contract, option by option, by what `put` ensures. Assumes nothing.
-
+-- Made by tools/make-proofs from tools/answers/options/Opt/put_meaning: `Opt::put_meaning` meets its contract, option by option, by what `put` ensures. Assumes nothing.
+-- Do not edit: `tools/make-proofs --check` compares. Sums of the answers and of what follows: 0ee8b2eb293e8c10 948f387d48cf4622.
 use borrow.Author.Needs.{needs}
 use Rattle.options.proofs.Opt.put_meaning.Statement.{statement}
 use Rattle.options.proofs.Opt.put_meaning.Tie as tie

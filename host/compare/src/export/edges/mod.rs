@@ -5,12 +5,16 @@
 //! |---|---|
 //! | `samples` | document 01's sample exports |
 //! | `written` | which action, and what it writes (readings A and W) |
-//! | `names` | UIDs, the ledger, dates and lists (readings U, D and L) |
+//! | `uids` | UIDs and the ledger (readings U) |
+//! | `dates` | dates that are shifted (readings D) |
+//! | `lists` | the replacement lists (readings L) |
 //! | `refused` | each refusal, its order, and what it leaves (readings R) |
 
-mod names;
+mod dates;
+mod lists;
 mod refused;
 mod samples;
+mod uids;
 mod written;
 
 use super::ledgers::slot_of;
@@ -39,7 +43,8 @@ enum Expected {
 }
 
 pub fn all() -> Vec<Edge> {
-    [samples::all(), written::all(), names::all(), refused::all()].into_iter().flatten().collect()
+    let all = [samples::all(), written::all(), uids::all(), dates::all(), lists::all(), refused::all()];
+    all.into_iter().flatten().collect()
 }
 
 impl Edge {

@@ -1,3 +1,0 @@
-pub mod PassedLaws
-pub mod HoldsLaws
-pub mod ActLaws

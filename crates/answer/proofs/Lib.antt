@@ -1,2 +1,0 @@
-pub mod SampleTable
-pub mod AnswerLaws

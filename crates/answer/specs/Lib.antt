@@ -1,4 +1,0 @@
-pub mod Input
-pub mod Conditions
-pub mod Answer
-pub mod Samples

@@ -1,0 +1,56 @@
+-- `cases_shape::pieces::elements` meets its contract: the room keeps its length at each turn. Assumes nothing.
+use mathlib.Core.Path.{_≡_}
+use Prim.Native.Nat.{_≤_, _-_}
+use lib.ListN.{length}
+use borrow.Author.Needs.{needs}
+use native.Mathlib.Omega.{arith}
+use Rattle.cases_shape.proofs.pieces.elements.Statement.{statement}
+use Rattle.cases_shape.proofs.pieces.elements.Tie as tie
+use Rattle.cases_shape.proofs.pieces.elements.Reads as reads
+use Rattle.cases_shape.proofs.pieces.elements.Lts as lts
+use Rattle.cases_shape.proofs.pieces.element.Reads as element-reads
+
+abbrev Inv-loop : tie.InvT-loop
+Inv-loop out₀ n p₀ i₀ out p i = (i ≤ n) × (length out ≡ length out₀)
+
+abbrev μ-loop : tie.MeasureT-loop
+μ-loop out₀ n p₀ i₀ out p i = n - i
+
+loop-holds : tie.Need-loop-holds Inv-loop μ-loop
+loop-holds c = search needs
+
+add-element : tie.Need-add-element Inv-loop μ-loop
+add-element c = search needs
+
+element-requires : tie.Need-element-requires Inv-loop μ-loop
+element-requires c κs = search needs
+
+add-i : tie.Need-add-i Inv-loop μ-loop
+add-i c = search needs
+
+loop-less : tie.Need-loop-less Inv-loop μ-loop
+loop-less c = search needs
+
+loop-again : tie.Need-loop-again Inv-loop μ-loop
+loop-again c = search needs
+
+same-length : tie.Need-same-length Inv-loop μ-loop
+same-length c = search needs
+
+returns : tie.Need-returns Inv-loop μ-loop
+returns c = search needs
+
+pub elements-spec : {M : Type 1} → statement M
+elements-spec =
+    tie.close
+    (tie.spec
+    Inv-loop
+    μ-loop
+    loop-holds
+    add-element
+    element-requires
+    add-i
+    loop-less
+    loop-again
+    same-length
+    returns)

@@ -1,0 +1,2 @@
+pub mod SampleTable
+pub mod OutcomeLaws

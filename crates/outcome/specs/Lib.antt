@@ -1,0 +1,4 @@
+pub mod Input
+pub mod Conditions
+pub mod Outcome
+pub mod Samples

@@ -1,0 +1,4 @@
+pub mod LevelLaws
+pub mod PassedLaws
+pub mod WalkedLaws
+pub mod HoldsLaws

@@ -1,0 +1,4 @@
+pub mod Bounds
+pub mod Passed
+pub mod Steps
+pub mod Wrote
