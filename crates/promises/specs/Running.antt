@@ -1,5 +1,5 @@
--- The three demands for the running code. They are stated over the contract of `station::deidentify` as its source has it (`Learnt` of the
--- reading that the kit makes of the source), so that a weakened `ensures` there is refused here. That a call comes to an end is what a proved
+-- The three demands for the running code. They are stated over the contract of `station::deidentify` as its source has it (`Learnt`, which
+-- the kit makes of the source), so that a weakened `ensures` there is refused here. That a call comes to an end is what a proved
 -- contract says. Proofs: `proofs/RunningProof.antt`, `proofs/RunningBatches.antt`. Assumes nothing.
 --     Lent              what a call of the station is lent and handed
 --     input x           the same in the words of crate `outcome`
