@@ -5,21 +5,19 @@
 --     rowIn-every                    what is found has the tag and passes a test that every row passes
 --     table-rises                    of two rows the later has the greater tag
 --     rowOf-found, rowOf-absent      each row is found by its tag; noRow where no row has the tag
---     rowOf-passed                   noRow where all rows before an index have lesser tags and the one there, if any, a greater one
 --     rowOf-every                    what is found has the tag and passes a test that every row passes
 --     table-legal, rowOf-legal       each row, and so what is found, has legal letters
 --     columns-at                     the column at an index is that of the same bit
 --     legal-basic, legal-letter      what that says of the basic action, and of the letter in an option's column
-use mathlib.Core.Path.{_≡_, refl, sym, ap}
-use mathlib.Core.Logic.{_⊎_, inl, inr}
+use mathlib.Core.Path.{_≡_, refl}
 use mathlib.Core.Bool.{Bool, true, false, _&&_}
 use mathlib.Core.List.{List, [], _∷_}
-use Prim.Native.Nat.{ℕ, zero, suc, _<_, _≤_, suc-le-suc, zero-le}
-use native.Mathlib.Nat.{le-of-suc-le-suc, not-suc-le-zero, lt-trans, eq-or-lt-of-le}
+use Prim.Native.Nat.{ℕ, zero, suc, _<_, suc-le-suc, zero-le}
+use native.Mathlib.Nat.{le-of-suc-le-suc, not-suc-le-zero, lt-trans}
 use native.Mathlib.Omega.{arith}
 use lib.Dec.{T, ltb, eqb, ltb→lt}
 use lib.ListN.{length, getD}
-use borrow.Author.Tests.{eq-eqb, ne-eqb, eqb-true, ltb-true, ltb-false}
+use borrow.Author.Tests.{eq-eqb, ne-eqb, eqb-true}
 use Rattle.basis.specs.Choice.{fork, every, among}
 use Rattle.table.specs.Rows.{table, rowCount}
 use Rattle.table.specs.Table.{basics, overrides, tagOf, basicOf, letterOf, columns, noRow, rowIn, rowOf, rising, legal}
@@ -95,25 +93,6 @@ rowOf-found tag k h e = rowIn-found tag table k (rw length-table h) e (λ j l f.
 
 pub rowOf-absent : (tag : ℕ) → ((j : ℕ) → j < rowCount → tagOf (getD table j 0) ≡ tag → ⊥) → rowOf tag ≡ noRow
 rowOf-absent tag n = rowIn-absent tag table (λ j l. n j (rw length-table at l))
-
-lt-or-le : (a b : ℕ) → (a < b) ⊎ (b ≤ a)
-lt-or-le a b = go (ltb a b) refl
-  where
-    go : (t : Bool) → ltb a b ≡ t → (a < b) ⊎ (b ≤ a)
-    go true e = inl (ltb-true a b e)
-    go false e = inr (ltb-false a b e)
-
-pub rowOf-passed : (tag k : ℕ) → ((j : ℕ) → j < k → tagOf (getD table j 0) < tag) → (k < rowCount → tag < tagOf (getD table k 0))
-    → rowOf tag ≡ noRow
-rowOf-passed tag k below above = rowOf-absent tag (λ j l e. apart j l e (lt-or-le j k))
-  where
-    from : (j : ℕ) → j < rowCount → tagOf (getD table j 0) ≡ tag → (k ≡ j) ⊎ (k < j) → ⊥
-    from j l e (inl m) = omega (arith, above (omega arith), ap (λ i. tagOf (getD table i 0)) m)
-    from j l e (inr m) = omega (arith, above (omega arith), table-rises k j m l)
-
-    apart : (j : ℕ) → j < rowCount → tagOf (getD table j 0) ≡ tag → (j < k) ⊎ (k ≤ j) → ⊥
-    apart j l e (inl m) = omega (arith, below j m)
-    apart j l e (inr m) = from j l e (eq-or-lt-of-le m)
 
 pub rowOf-every : (p : ℕ → Bool) → T (every p table) → (tag : ℕ) → (rowOf tag ≡ noRow → ⊥) → (tagOf (rowOf tag) ≡ tag) × T (p (rowOf tag))
 rowOf-every p t = rowIn-every p table t

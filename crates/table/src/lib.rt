@@ -71,22 +71,26 @@ pub fn rows() -> [u64; e1_1::COUNT]
     e1_1::ROWS
 }
 
-// The row of a tag, or 0 where there is none. The table is walked from the top: the first row whose tag is not below decides.
+// The row of a tag, or 0 where there is none: the plain search would take the first row with the tag. The rows rise by tag, so the row in
+// the middle tells which half of those that are left, from `low` up to `high`, can still have it.
 pub fn row_of(rows: &[u64], tag: u64) -> u64
     requires { ⌜ now rows ≡ table ⌝ }
     ensures { λ r. ⌜ r ≡ rowOf tag ⌝ }
 {
-    let mut i: usize = 0;
-    while i < rows.len() {
-        let row = rows[i];
+    let mut low: usize = 0;
+    let mut high = rows.len();
+    while low < high {
+        let middle = (low + high) / 2;
+        let row = rows[middle];
         let there = row / TAG;
-        if tag <= there {
-            if there == tag {
-                return row;
-            }
-            return NO_ROW;
+        if there == tag {
+            return row;
         }
-        i += 1;
+        if there < tag {
+            low = middle + 1;
+        } else {
+            high = middle;
+        }
     }
     NO_ROW
 }

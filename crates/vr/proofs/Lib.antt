@@ -1,1 +1,2 @@
 pub mod VrLaws
+pub mod KindsLaws

@@ -1,7 +1,9 @@
 // What document 01 says of each of the 34 VRs. A VR is the number that its two letters spell, lowest byte first.
 ghost use mathlib.Core.Path.{_≡_};
+ghost use Prim.Native.Nat.{_<_};
 ghost use lib.ListN.{length};
 ghost use Rattle.vr.specs.Vr.{allVrs, kindOf, servedByLists, dummyOf, inRoom};
+ghost use Rattle.vr.specs.Kinds.{KindsAfter};
 
 pub const AE: u64 = 0x4541;
 
@@ -128,36 +130,62 @@ pub fn vrs() -> [u64; 34]
     ]
 }
 
+// The kinds of the VRs with this first letter, two bits for each second letter, counted from 64: 1 Short, 2 Long, 3 Sequence, 0 no VR.
+fn kinds_after(first: u64) -> u64
+    requires { ⌜ first < 256 ⌝ }
+    ensures { λ r. ⌜ KindsAfter first r ⌝ }
+{
+    match first {
+        // AE, AS, AT
+        0x41 => 0x0140_0000_0400,
+        // CS
+        0x43 => 0x0040_0000_0000,
+        // DA, DS, DT
+        0x44 => 0x0140_0000_0004,
+        // FD, FL
+        0x46 => 0x0100_0100,
+        // IS
+        0x49 => 0x0040_0000_0000,
+        // LO, LT
+        0x4C => 0x0100_4000_0000,
+        // OB, OD, OF, OL, OV, OW
+        0x4F => 0xA000_0200_2220,
+        // PN
+        0x50 => 0x1000_0000,
+        // SH, SL, SQ, SS, ST, SV
+        0x53 => 0x214C_0101_0000,
+        // TM
+        0x54 => 0x0400_0000,
+        // UC, UI, UL, UN, UR, US, UT, UV
+        0x55 => 0x2260_2104_0080,
+        _ => 0,
+    }
+}
+
+// The plain way is a `match` over the 34. This is asked of each element three times and more: a number that holds the kinds of all VRs with one
+// first letter is short enough to be written out wherever it is asked, and leaves little to be guessed.
 pub fn kind_of(vr: u64) -> Kind
     ensures { λ r. ⌜ r ≡ kindOf vr ⌝ }
 {
-    match vr {
-        SQ => Kind::Sequence,
-        OB | OD | OF | OL | OV | OW | SV | UC | UN | UR | UT | UV => Kind::Long,
-        AE
-        | AS
-        | AT
-        | CS
-        | DA
-        | DT
-        | FD
-        | FL
-        | IS
-        | LO
-        | LT
-        | PN
-        | SH
-        | SL
-        | SS
-        | ST
-        | TM
-        | UI
-        | UL
-        | US => Kind::Short,
-        // apart from CS, its neighbour: numbers side by side in one arm are tested as a range
-        DS => Kind::Short,
-        _ => Kind::Unknown,
+    let second = vr / 256;
+    if second < 64 {
+        return Kind::Unknown;
     }
+    if 95 < second {
+        return Kind::Unknown;
+    }
+    let kinds = kinds_after(vr % 256);
+    let kind = (kinds >> (2 * (second - 64))) % 4;
+    if kind == 1 {
+        return Kind::Short;
+    }
+    if kind == 2 {
+        return Kind::Long;
+    }
+    if kind == 3 {
+        return Kind::Sequence;
+    }
+    Kind::Unknown
 }
 
 pub fn served_by_lists(vr: u64) -> bool

@@ -6,12 +6,11 @@ ghost use lib.ListN.{length};
 ghost use Rattle.buffer.specs.Buffer.{laid};
 ghost use Rattle.layout.specs.Write.{mark, shortHeader, longHeader, header};
 
-// A header of 8 bytes, with a length of two.
-fn put_short(tag: u64, vr: u64, n: usize, out: &mut [u8], pos: usize) -> usize
-    requires { ⌜ pos + 12 < 2 ^ 64 ⌝ }
-    ensures { λ r. ⌜ (r ≡ pos + 8) × (now (out .exit) ≡ laid (now (out .entry)) pos (shortHeader tag vr n)) ⌝ }
+// The eight bytes of a short header.
+fn short_head(tag: u64, vr: u64, n: usize) -> [u8; 8]
+    ensures { λ r. ⌜ r ≡ shortHeader tag vr n ⌝ }
 {
-    let head = [
+    [
         (tag / 65536 % 256) as u8,
         (tag / 65536 / 256 % 256) as u8,
         (tag % 256) as u8,
@@ -20,7 +19,21 @@ fn put_short(tag: u64, vr: u64, n: usize, out: &mut [u8], pos: usize) -> usize
         (vr / 256 % 256) as u8,
         (n % 256) as u8,
         (n / 256 % 256) as u8,
-    ];
+    ]
+}
+
+// A header of 8 bytes, with a length of two. Where there is room for all of it, as nearly always, its bytes go straight to their places; the
+// array that is cut is another one, since an array of which a part is copied has to lie in memory.
+fn put_short(tag: u64, vr: u64, n: usize, out: &mut [u8], pos: usize) -> usize
+    requires { ⌜ pos + 12 < 2 ^ 64 ⌝ }
+    ensures { λ r. ⌜ (r ≡ pos + 8) × (now (out .exit) ≡ laid (now (out .entry)) pos (shortHeader tag vr n)) ⌝ }
+{
+    if pos + 8 <= out.len() {
+        let head = short_head(tag, vr, n);
+        buffer::copy(&head, 0, 8, out, pos);
+        return pos + 8;
+    }
+    let head = short_head(tag, vr, n);
     buffer::copy_block(&head, 0, 8, out, pos)
 }
 

@@ -42,6 +42,24 @@ fn gain(level: Level, options: u64, low: u64, high: u64, out: &mut [u8], t: Prog
     write_state::at_place(t, pos)
 }
 
+// The same before an element. In an item nothing is gained, and most elements stand in items: the test alone is written out where it is asked.
+fn gain_before(
+    level: Level,
+    options: u64,
+    low: u64,
+    high: u64,
+    out: &mut [u8],
+    t: Progress,
+) -> Progress
+    requires { ⌜ t .pos + allMarkers < farthest ⌝ }
+    ensures { λ r. ⌜ (r ≡ at-place t (t .pos + length (gained level options low high))) × (now (out .exit) ≡ laid (now (out .entry)) (t .pos) (gained level options low high)) ⌝ }
+{
+    if treatment::is_top(level) {
+        return gain(level, options, low, high, out, t);
+    }
+    t
+}
+
 // An element with a value, where `at` tells.
 fn plain<'a>(
     rows: &[u64],
@@ -60,7 +78,7 @@ fn plain<'a>(
     ensures { λ r. ⌜ Wrote (Gaining (settingsOf n (now (root .entry)) (now (study .entry)) (now (site .entry))) (at .level) (at .low) (e .tag) (PlainPass (settingsOf n (now (root .entry)) (now (study .entry)) (now (site .entry))) (at .level) (e .tag) (e .vr) (now (s .entry)) (e .body) (e .past))) (e .body) (e .past) markedElement 1 (now (out .entry)) (now (out .exit)) (now (ledger .entry)) (now (ledger .exit)) start r ⌝ }
 {
     let level = at.level;
-    let t = gain(level, n.options, at.low, e.tag + 1, out, start);
+    let t = gain_before(level, n.options, at.low, e.tag + 1, out, start);
     let fate = treatment::fate_of(rows, n.options, level, e.tag, e.vr);
     write_element::act(fate, n, root, study, site, e, s, ledger, out, t)
 }

@@ -1,72 +1,58 @@
--- `vr::kind_of` meets its contract: each arm by one computed test over its patterns, what is left by what no arm took.
--- Assumes nothing.
-use mathlib.Core.Path.{_≡_, refl, sym}
-use mathlib.Core.Bool.{Bool, true, false}
-use mathlib.Core.List.{List, [], _∷_, _++_, map}
-use lib.ListN.{replicate}
-use Prim.Native.Nat.{ℕ}
-use types.Run.{OneOf}
-use Rattle.basis.specs.Choice.{among}
-use Rattle.basis.proofs.ChoiceLaws.{arm, among-none, among-join, among-less, eqb-less}
-use Rattle.vr.specs.Names.{AE, AS, AT, CS, DA, DS, DT, FD, FL, IS, LO, LT, OB, OD, OF, OL, OV, OW, PN, SH, SL, SQ, SS, ST, SV, TM, UC, UI, UL, UN, UR, US, UT, UV}
-use Rattle.vr.specs.Vr.{kindOf, allVrs}
-use Rattle.vr.proofs.VrLaws.{kindOf-unknown}
-use Rattle.vr.specs.declared.Kind.the-variants.{Unknown, Short, Long, Sequence}
+-- `vr::kind_of` meets its contract. Assumes nothing.
+use mathlib.Core.Path.{_≡_, sym, _∙_}
+use Prim.Native.Nat.{ℕ, _-_, _*_, _/_, _%_, _^_}
+use native.Mathlib.Omega.{arith}
+use borrow.Author.Needs.{needs}
+use Rattle.vr.specs.Vr.{kindOf}
+use Rattle.vr.specs.Kinds.{kindNumber}
+use Rattle.vr.proofs.KindsLaws.{kinds-at, kindOf-letters, number-short, number-long, number-sequence, number-unknown}
 use Rattle.vr.proofs.kind_of.Statement.{statement}
 use Rattle.vr.proofs.kind_of.Tie as tie
 
-abbrev arm1 : List ℕ
-arm1 = SQ ∷ []
-
-abbrev arm2 : List ℕ
-arm2 = OB ∷ UC ∷ OD ∷ OF ∷ OL ∷ UN ∷ UR ∷ UT ∷ OV ∷ SV ∷ UV ∷ OW ∷ []
-
-abbrev arm3 : List ℕ
-arm3 = DA ∷ FD ∷ AE ∷ SH ∷ UI ∷ FL ∷ SL ∷ UL ∷ TM ∷ PN ∷ LO ∷ AS ∷ CS ∷ IS ∷ SS ∷ US ∷ AT ∷ DT ∷ LT ∷ ST ∷ []
-
-abbrev arm4 : List ℕ
-arm4 = DS ∷ []
-
 returns : tie.Need-returns
-unfolding kindOf among
-returns c = sym (arm kindOf Sequence _ arm1 refl (c .match .keys1))
+returns c = sym (kindOf-letters _ (λ low high. omega arith))
 
 returns-2 : tie.Need-returns-2
-unfolding kindOf among
-returns-2 c = sym (arm kindOf Long _ arm2 refl (c .match .keys2))
+returns-2 c = sym (kindOf-letters _ (λ low high. omega arith))
+
+kinds-after-requires : tie.Need-kinds-after-requires
+kinds-after-requires c κs = search needs
+
+mul-kind : tie.Need-mul-kind
+mul-kind c = search needs
+
+shr-kind : tie.Need-shr-kind
+shr-kind c = search needs
+
+-- the two bits are the kind's
+bits : (c : tie.After-kinds-after) → let vr = c .before .before .before .args .vr in
+    c .kinds-after .result / 2 ^ (2 * (vr / 256 - 64)) % 4 ≡ kindNumber (kindOf vr)
+bits c = kinds-at _ (c .kinds-after .result) (c .kinds-after .ensures) (omega arith) (omega arith)
 
 returns-3 : tie.Need-returns-3
-unfolding kindOf among
-returns-3 c = sym (arm kindOf Short _ arm3 refl (c .match .keys3))
+returns-3 c = sym (number-short _ (sym (bits (c .before)) ∙ c .if3 .taken))
 
 returns-4 : tie.Need-returns-4
-unfolding kindOf among
-returns-4 c = sym (arm kindOf Short _ arm4 refl (c .match .keys4))
-
--- what no arm took
-abbrev taken : List ℕ
-taken = arm1 ++ (arm2 ++ (arm3 ++ (arm4)))
-
-untaken : (vr : ℕ) → (OneOf arm1 vr → ⊥) → (OneOf arm2 vr → ⊥) → (OneOf arm3 vr → ⊥) → (OneOf arm4 vr → ⊥) → among vr taken ≡ false
-untaken vr n1 n2 n3 n4 =
-    among-join vr arm1 (arm2 ++ (arm3 ++ (arm4)))
-    (among-none vr arm1 n1)
-    (among-join vr arm2 (arm3 ++ (arm4))
-    (among-none vr arm2 n2)
-    (among-join vr arm3 (arm4)
-    (among-none vr arm3 n3)
-    (among-none vr arm4 n4)))
-
-covers-allVrs : map (λ k. among k taken) allVrs ≡ replicate 34 true
-unfolding among
-covers-allVrs = refl
-
-rest : (vr : ℕ) → among vr taken ≡ false → Unknown ≡ kindOf vr
-rest vr none = sym (kindOf-unknown vr (among-less vr allVrs taken covers-allVrs none))
+returns-4 c = sym (number-long _ (sym (bits (c .before .before)) ∙ c .if4 .taken))
 
 returns-5 : tie.Need-returns-5
-returns-5 c =
-    rest (c .before .args .vr) (untaken (c .before .args .vr) (c .match .rest .0 .0 .0 .1) (c .match .rest .0 .0 .1) (c .match .rest .0 .1) (c .match .rest .1))
+returns-5 c = sym (number-sequence _ (sym (bits (c .before .before .before)) ∙ c .if5 .taken))
+
+returns-6 : tie.Need-returns-6
+returns-6 c =
+    let same = bits (c .before .before .before) in
+    sym (number-unknown _ (λ e. c .before .before .if3 .left (same ∙ e)) (λ e. c .before .if4 .left (same ∙ e)) (λ e. c .if5 .left (same ∙ e)))
 
 pub kind-of-spec : {M : Type 1} → statement M
-kind-of-spec = tie.close (tie.spec returns returns-2 returns-3 returns-4 returns-5)
+kind-of-spec =
+    tie.close
+    (tie.spec
+    returns
+    returns-2
+    kinds-after-requires
+    mul-kind
+    shr-kind
+    returns-3
+    returns-4
+    returns-5
+    returns-6)
