@@ -11,8 +11,7 @@ use Rattle.basis.proofs.ChoiceLaws.{arm, among-none, among-join, among-less, eqb
 use Rattle.vr.specs.Names.{AE, AS, AT, CS, DA, DS, DT, FD, FL, IS, LO, LT, OB, OD, OF, OL, OV, OW, PN, SH, SL, SQ, SS, ST, SV, TM, UC, UI, UL, UN, UR, US, UT, UV}
 use lib.ListN.{length}
 use Rattle.vr.specs.Vr.{dummy_of, in_room}
-use Rattle.vr.proofs.dummy_of.Statement.{statement}
-use Rattle.vr.proofs.dummy_of.Tie as tie
+use Rattle.vr.proofs.dummy_of.Goals as goal
 
 -- a dummy handed over is the one of its arm
 alike : (vr like : ℕ) {bytes : List ℕ} {len : ℕ} → dummy_of vr ≡ dummy_of like → bytes ≡ in_room (dummy_of like) → len ≡ length (dummy_of like)
@@ -45,42 +44,6 @@ arm8 = OF ∷ FL ∷ OL ∷ SL ∷ UL ∷ AT ∷ []
 
 abbrev arm9 : List ℕ
 arm9 = FD ∷ OD ∷ OV ∷ SV ∷ UV ∷ []
-
-returns : tie.Need-returns
-unfolding dummy_of among
-returns c = alike c.before.before.before.args.vr AE (arm dummy_of (dummy_of AE) c.before.before.before.args.vr arm1 refl c.before.before.match.keys1) refl refl
-
-returns-2 : tie.Need-returns-2
-unfolding dummy_of among
-returns-2 c = alike c.before.before.before.args.vr AS (arm dummy_of (dummy_of AS) c.before.before.before.args.vr arm2 refl c.before.before.match.keys2) refl refl
-
-returns-3 : tie.Need-returns-3
-unfolding dummy_of among
-returns-3 c = alike c.before.before.before.args.vr DA (arm dummy_of (dummy_of DA) c.before.before.before.args.vr arm3 refl c.before.before.match.keys3) refl refl
-
-returns-4 : tie.Need-returns-4
-unfolding dummy_of among
-returns-4 c = alike c.before.before.before.args.vr DT (arm dummy_of (dummy_of DT) c.before.before.before.args.vr arm4 refl c.before.before.match.keys4) refl refl
-
-returns-5 : tie.Need-returns-5
-unfolding dummy_of among
-returns-5 c = alike c.before.before.before.args.vr TM (arm dummy_of (dummy_of TM) c.before.before.before.args.vr arm5 refl c.before.before.match.keys5) refl refl
-
-returns-6 : tie.Need-returns-6
-unfolding dummy_of among
-returns-6 c = alike c.before.before.before.args.vr DS (arm dummy_of (dummy_of DS) c.before.before.before.args.vr arm6 refl c.before.before.match.keys6) refl refl
-
-returns-7 : tie.Need-returns-7
-unfolding dummy_of among
-returns-7 c = alike c.before.args.vr OB (arm dummy_of (dummy_of OB) c.before.args.vr arm7 refl c.match.keys7) refl refl
-
-returns-8 : tie.Need-returns-8
-unfolding dummy_of among
-returns-8 c = alike c.before.args.vr AT (arm dummy_of (dummy_of AT) c.before.args.vr arm8 refl c.match.keys8) refl refl
-
-returns-9 : tie.Need-returns-9
-unfolding dummy_of among
-returns-9 c = alike c.before.args.vr FD (arm dummy_of (dummy_of FD) c.before.args.vr arm9 refl c.match.keys9) refl refl
 
 -- what no arm took
 abbrev taken : List ℕ
@@ -160,9 +123,42 @@ no-dummy vr none =
 rest : (vr : ℕ) → among vr taken ≡ false → (replicate 14 0 ≡ in_room (dummy_of vr)) × (0 ≡ length (dummy_of vr))
 rest vr none = rw (no-dummy vr none) (refl, refl)
 
-returns-10 : tie.Need-returns-10
-returns-10 c =
-    rest c.before.args.vr (untaken c.before.args.vr c.match.rest.0.0.0.0.0.0.0.0.1 c.match.rest.0.0.0.0.0.0.0.1 c.match.rest.0.0.0.0.0.0.1 c.match.rest.0.0.0.0.0.1 c.match.rest.0.0.0.0.1 c.match.rest.0.0.0.1 c.match.rest.0.0.1 c.match.rest.0.1 c.match.rest.1)
+pub returns-in-17729 : goal.returns-in-17729
+unfolding dummy_of among
+returns-in-17729 c = alike c.args.vr AE (arm dummy_of (dummy_of AE) c.args.vr arm1 refl c.in-17729.is) refl refl
 
-pub dummy-of-spec : {M : Type 1} → statement M
-dummy-of-spec = tie.close (tie.spec returns returns-2 returns-3 returns-4 returns-5 returns-6 returns-7 returns-8 returns-9 returns-10)
+pub returns-in-21313 : goal.returns-in-21313
+unfolding dummy_of among
+returns-in-21313 c = alike c.args.vr AS (arm dummy_of (dummy_of AS) c.args.vr arm2 refl c.in-21313.is) refl refl
+
+pub returns-in-16708 : goal.returns-in-16708
+unfolding dummy_of among
+returns-in-16708 c = alike c.args.vr DA (arm dummy_of (dummy_of DA) c.args.vr arm3 refl c.in-16708.is) refl refl
+
+pub returns-in-21572 : goal.returns-in-21572
+unfolding dummy_of among
+returns-in-21572 c = alike c.args.vr DT (arm dummy_of (dummy_of DT) c.args.vr arm4 refl c.in-21572.is) refl refl
+
+pub returns-in-19796 : goal.returns-in-19796
+unfolding dummy_of among
+returns-in-19796 c = alike c.args.vr TM (arm dummy_of (dummy_of TM) c.args.vr arm5 refl c.in-19796.is) refl refl
+
+pub returns-in-21316 : goal.returns-in-21316
+unfolding dummy_of among
+returns-in-21316 c = alike c.args.vr DS (arm dummy_of (dummy_of DS) c.args.vr arm6 refl c.in-21316.is) refl refl
+
+pub returns-in-16975 : goal.returns-in-16975
+unfolding dummy_of among
+returns-in-16975 c = alike c.args.vr OB (arm dummy_of (dummy_of OB) c.args.vr arm7 refl c.in-16975.is) refl refl
+
+pub returns-in-21569 : goal.returns-in-21569
+unfolding dummy_of among
+returns-in-21569 c = alike c.args.vr AT (arm dummy_of (dummy_of AT) c.args.vr arm8 refl c.in-21569.is) refl refl
+
+pub returns-in-17478 : goal.returns-in-17478
+unfolding dummy_of among
+returns-in-17478 c = alike c.args.vr FD (arm dummy_of (dummy_of FD) c.args.vr arm9 refl c.in-17478.is) refl refl
+
+pub returns-in_default : goal.returns-in_default
+returns-in_default c =
+    rest c.args.vr (untaken c.args.vr c.in_default.in_default-own.rest.0.0.0.0.0.0.0.0.1 c.in_default.in_default-own.rest.0.0.0.0.0.0.0.1 c.in_default.in_default-own.rest.0.0.0.0.0.0.1 c.in_default.in_default-own.rest.0.0.0.0.0.1 c.in_default.in_default-own.rest.0.0.0.0.1 c.in_default.in_default-own.rest.0.0.0.1 c.in_default.in_default-own.rest.0.0.1 c.in_default.in_default-own.rest.0.1 c.in_default.in_default-own.rest.1)

@@ -10,22 +10,13 @@ use Rattle.basis.specs.Choice.{among}
 use Rattle.basis.proofs.ChoiceLaws.{arm, among-none, among-join, among-less, eqb-less}
 use Rattle.vr.specs.Names.{AE, AS, AT, CS, DA, DS, DT, FD, FL, IS, LO, LT, OB, OD, OF, OL, OV, OW, PN, SH, SL, SQ, SS, ST, SV, TM, UC, UI, UL, UN, UR, US, UT, UV}
 use Rattle.vr.specs.Vr.{served_by_lists, served}
-use Rattle.vr.proofs.served_by_lists.Statement.{statement}
-use Rattle.vr.proofs.served_by_lists.Tie as tie
+use Rattle.vr.proofs.served_by_lists.Goals as goal
 
 abbrev arm1 : List ℕ
 arm1 = DA ∷ UC ∷ AE ∷ SH ∷ TM ∷ PN ∷ LO ∷ UR ∷ AS ∷ CS ∷ IS ∷ DT ∷ LT ∷ ST ∷ UT ∷ []
 
 abbrev arm2 : List ℕ
 arm2 = DS ∷ []
-
-returns : tie.Need-returns
-unfolding served_by_lists among
-returns c = sym (arm served_by_lists true _ arm1 refl c.match.keys1)
-
-returns-2 : tie.Need-returns-2
-unfolding served_by_lists among
-returns-2 c = sym (arm served_by_lists true _ arm2 refl c.match.keys2)
 
 -- what no arm took
 abbrev taken : List ℕ
@@ -45,9 +36,14 @@ rest : (vr : ℕ) → among vr taken ≡ false → false ≡ served_by_lists vr
 unfolding served_by_lists
 rest vr none = rw (among-less vr served taken covers-served none)
 
-returns-3 : tie.Need-returns-3
-returns-3 c =
-    rest c.before.args.vr (untaken c.before.args.vr c.match.rest.0.1 c.match.rest.1)
+pub returns-in-17729 : goal.returns-in-17729
+unfolding served_by_lists among
+returns-in-17729 c = sym (arm served_by_lists true _ arm1 refl c.in-17729.is)
 
-pub served-by-lists-spec : {M : Type 1} → statement M
-served-by-lists-spec = tie.close (tie.spec returns returns-2 returns-3)
+pub returns-in-21316 : goal.returns-in-21316
+unfolding served_by_lists among
+returns-in-21316 c = sym (arm served_by_lists true _ arm2 refl c.in-21316.is)
+
+pub returns-in_default : goal.returns-in_default
+returns-in_default c =
+    rest c.args.vr (untaken c.args.vr c.in_default.in_default-own.rest.0.1 c.in_default.in_default-own.rest.1)

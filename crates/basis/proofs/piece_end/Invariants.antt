@@ -1,0 +1,13 @@
+-- `piece_end` meets its contract. The loop's invariant: the piece from e on ends where that from a on does. Assumes nothing.
+use mathlib.Core.Path.{◌≡◌, refl, sym, ◌∙◌}
+use Prim.Native.Nat.{◌-◌, ◌≤◌}
+use Rattle.basis.specs.Pieces.{piece_end}
+use Rattle.basis.proofs.PieceEndLaws.{piece-more, piece-found, piece-last}
+use native.Mathlib.Omega.{arith}
+use Rattle.basis.proofs.piece_end.Given as goal
+
+abbrev pub invariant-loop-e : goal.invariant-loop-e
+invariant-loop-e l = (l.a ≤ l.e) × (l.e ≤ l.stop) × (piece_end l.s l.e l.stop ≡ piece_end l.s l.a l.stop)
+
+abbrev pub decreases-loop-e : goal.decreases-loop-e
+decreases-loop-e l = l.stop - l.e

@@ -1,0 +1,14 @@
+-- `buffer::zero_from` meets its contract. Assumes nothing.
+use Rattle.buffer.proofs.Laws.{laid-none, cleared-step, cleared-is}
+use lib.ListN.{length, set, replicate, length-set}
+use Prim.Native.Nat.{◌≤◌, ◌-◌}
+use mathlib.Core.Path.{◌≡◌, refl, sym, ap, ◌∙◌}
+use Rattle.buffer.specs.Buffer.{laid}
+use native.Mathlib.Omega.{arith}
+use Rattle.buffer.proofs.zero_from.Given as goal
+
+abbrev pub invariant-loop-i : goal.invariant-loop-i
+invariant-loop-i l = (l.pos ≤ l.i) × (l.out ≡ laid l.initial.out l.pos (replicate (l.i - l.pos) 0)) × (length l.out ≡ length l.initial.out)
+
+abbrev pub decreases-loop-i : goal.decreases-loop-i
+decreases-loop-i l = length l.out - l.i
