@@ -1,6 +1,7 @@
 // The shape of a data set: heads of elements, items and end marks, and the walk that finds the first fault (refusals 6 to 10).
 // Elements contain sequences, sequences contain items, items contain elements: three walkers call each other in that cycle. What
 // stands side by side is passed over in a loop, so the stack grows with the depth alone, and a value is never looked into.
+#![tactic(auto)]
 ghost use Rattle.std.specs.Prelude.{◌≡◌, Bool, true, false, ℕ, ◌+◌, ◌-◌, ◌≤◌, ◌<◌, length};
 ghost use Rattle.basis.specs.Bytes.{le2, le4};
 ghost use Rattle.layout.specs.Limits.{deepest};
@@ -117,7 +118,7 @@ fn length_fault(n: usize, left: usize) -> u8
 fn value_head(tag: u64, vr: u64, body: usize, end: usize, n: usize) -> Head
     requires { (body ≤ end) × (tag < 4294967296) }
     ensures value { result ≡ value_head tag vr body end n }
-    ensures by_index { (at : ℕ) → at + 8 ≤ body → Inside at end result }
+    ensures inside { (at : ℕ) → at + 8 ≤ body → Inside at end result }
 {
     let fault = length_fault(n, end - body);
     if fault != 0 {
@@ -130,7 +131,7 @@ fn value_head(tag: u64, vr: u64, body: usize, end: usize, n: usize) -> Head
 fn sequence_head(tag: u64, body: usize, end: usize, n: usize) -> Head
     requires { (body ≤ end) × (tag < 4294967296) }
     ensures value { result ≡ sequence_head tag body end n }
-    ensures by_index { (at : ℕ) → at + 12 ≤ body → Inside at end result }
+    ensures inside { (at : ℕ) → at + 12 ≤ body → Inside at end result }
 {
     if n == UNDEFINED {
         return Head::Seq(tag, body, end, true);
@@ -233,7 +234,7 @@ pub fn element_head(s: &[u8], at: usize, end: usize, unstated: bool, low: u64) -
 fn item_body(body: usize, end: usize, n: usize) -> Spot
     requires { body ≤ end }
     ensures value { result ≡ item_body body end n }
-    ensures by_index { (at depth : ℕ) → at + 8 ≤ body → 0 < depth → Within at end depth result }
+    ensures within { (at depth : ℕ) → at + 8 ≤ body → 0 < depth → Within at end depth result }
 {
     if n == UNDEFINED {
         return Spot::Item(body, end, true);

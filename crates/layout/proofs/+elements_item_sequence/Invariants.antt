@@ -1,0 +1,32 @@
+-- The cycle of `layout::elements`, `layout::item`, `layout::sequence` meets its contracts. Assumes nothing.
+use Rattle.layout.specs.Source.{explicitly}
+use Rattle.layout.specs.Walks.{Inside, Within}
+use Rattle.layout.specs.declared.Head.TheVariants.{Plain, Seq}
+use Rattle.layout.specs.declared.Spot.TheVariants.{Item}
+use Rattle.layout.proofs.WalkLaws.{Going, GoingItems, start, start-items, stop-bad, stop-end, go-plain, stop-seq, go-seq, stop-wrong, stop-over, stop-item, go-item}
+use Prim.Native.Nat.{◌+◌, ◌-◌, ◌*◌}
+use borrow.Author.Rules.{rules}
+use native.Mathlib.Omega.{arith}
+use Prim.Native.Nat.{ℕ, ◌<◌}
+use Rattle.layout.proofs.+elements_item_sequence.Given as goal
+
+abbrev pub decreases-elements : goal.decreases-elements
+decreases-elements l = 3 * (l.c.end - l.c.from)
+
+abbrev pub decreases-item : goal.decreases-item
+decreases-item l = 3 * (l.c.end - l.c.from) + 1
+
+abbrev pub decreases-sequence : goal.decreases-sequence
+decreases-sequence l = 3 * (l.c.end - l.c.from) + 2
+
+abbrev pub invariant-elements-loop-n : goal.invariant-elements-loop-n
+invariant-elements-loop-n l = Going (explicitly l.s) l.c l.at l.low
+
+abbrev pub decreases-elements-loop-n : goal.decreases-elements-loop-n
+decreases-elements-loop-n l = l.c.end - l.at
+
+abbrev pub invariant-sequence-loop-n : goal.invariant-sequence-loop-n
+invariant-sequence-loop-n l = GoingItems (explicitly l.s) l.c l.at
+
+abbrev pub decreases-sequence-loop-n : goal.decreases-sequence-loop-n
+decreases-sequence-loop-n l = l.c.end - l.at

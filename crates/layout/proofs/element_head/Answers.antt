@@ -1,0 +1,35 @@
+-- `layout::element_head` meets its contract. Assumes nothing.
+use borrow.Author.Tests.{eq-eqb, ne_eqb, lt-ltb, le-ltb}
+use Rattle.layout.specs.Heads.{element_head}
+use Rattle.layout.proofs.HeadLaws.{apart}
+use borrow.Author.Rules.{rules}
+use native.Mathlib.Omega.{arith}
+use Rattle.layout.proofs.element_head.Goals as goal
+
+pub returns-then-unstated : goal.returns-then-unstated
+unfolding element_head
+returns-then-unstated c = record { value = simp (eq-eqb _ _ c.if-at-end.true, c.if-unstated.true, lt-ltb _ _ c.if-end-at-lt8.true); inside = tt }
+
+pub returns-then-at-end : goal.returns-then-at-end
+unfolding element_head
+returns-then-at-end c = record { value = simp (eq-eqb _ _ c.if-at-end.true, c.if-unstated.false); inside = omega arith }
+
+pub returns-then-end-at-lt8 : goal.returns-then-end-at-lt8
+unfolding element_head
+returns-then-end-at-lt8 c = record { value = simp (ne_eqb _ _ c.if-at-end.false, lt-ltb _ _ c.if-end-at-lt8.true); inside = tt }
+
+pub returns-then-n-ne0 : goal.returns-then-n-ne0
+unfolding element_head
+returns-then-n-ne0 c = record { value = simp (apart _ _ c.if-end-at-lt8.false, le-ltb _ _ c.if-end-at-lt8.false, ← c.tag_at-tag.ensures.0, c.if-unstated-2.true, eq-eqb _ _ c.if-tag-eq-ITEM_END.true, ← c.u32_at-n.ensures.0, ne_eqb _ _ c.if-n-ne0.true); inside = tt }
+
+pub returns-then-tag-eq-ITEM_END : goal.returns-then-tag-eq-ITEM_END
+unfolding element_head
+returns-then-tag-eq-ITEM_END c = record { value = simp (apart _ _ c.if-end-at-lt8.false, le-ltb _ _ c.if-end-at-lt8.false, ← c.tag_at-tag.ensures.0, c.if-unstated-2.true, eq-eqb _ _ c.if-tag-eq-ITEM_END.true, ← c.u32_at-n.ensures.0, eq-eqb _ _ c.if-n-ne0.false); inside = omega arith }
+
+pub returns-then-unstated-2 : goal.returns-then-unstated-2
+unfolding element_head
+returns-then-unstated-2 c = record { value = simp (apart _ _ c.if-end-at-lt8.false, le-ltb _ _ c.if-end-at-lt8.false, ← c.tag_at-tag.ensures.0, c.if-unstated-2.true, ne_eqb _ _ c.if-tag-eq-ITEM_END.false) c.tag_head.ensures.value; inside = c.tag_head.ensures.inside }
+
+pub returns : goal.returns
+unfolding element_head
+returns c = record { value = simp (apart _ _ c.if-end-at-lt8.false, le-ltb _ _ c.if-end-at-lt8.false, ← c.tag_at-tag.ensures.0, c.if-unstated-2.false) c.tag_head-2.ensures.value; inside = c.tag_head-2.ensures.inside }

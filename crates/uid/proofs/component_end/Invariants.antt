@@ -1,0 +1,15 @@
+-- `component_end` meets its contract. The loop's invariant: the digits from e on end where those from a on do. Assumes nothing.
+use mathlib.Core.Path.{◌≡◌, sym, ap, ◌∙◌}
+use Prim.Native.Nat.{◌+◌, ◌-◌, ◌≤◌}
+use Rattle.basis.specs.Bytes.{part}
+use Rattle.uid.specs.Scan.{digits, lead}
+use Rattle.basis.proofs.TextLaws.{is_digit-yes, is_digit-low, is_digit-high}
+use Rattle.uid.proofs.ComponentTurns.{digits-more, digits-found, digits-last, lead-zero, lead-digits, lead-past}
+use native.Mathlib.Omega.{arith}
+use Rattle.uid.proofs.component_end.Given as goal
+
+abbrev pub invariant-loop-e : goal.invariant-loop-e
+invariant-loop-e l = (l.a ≤ l.e) × (l.e ≤ l.stop) × (l.e + digits (part l.s l.e l.stop) ≡ l.a + lead (part l.s l.a l.stop))
+
+abbrev pub decreases-loop-e : goal.decreases-loop-e
+decreases-loop-e l = l.stop - l.e
