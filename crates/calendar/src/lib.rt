@@ -1,4 +1,5 @@
 // A date by value, moved by a signed number of days, and the values of DA and DT elements, whose dates are moved so.
+#![tactic(auto)]
 ghost use Rattle.std.specs.Prelude.{◌≡◌, ◌+◌, ◌-◌, ◌≤◌, ◌<◌, ◌^◌, length};
 ghost use Rattle.basis.specs.Bytes.{part};
 ghost use Rattle.basis.specs.Choice.{then, is_none};
@@ -16,7 +17,7 @@ const LAST_YEAR: u32 = 9999;
 // How many characters a date has.
 const DATE_LENGTH: usize = 8;
 
-#[derive(Drop)]
+#[derive(Clone, Copy)]
 pub struct Date {
     pub year: u32,
     pub month: u32,

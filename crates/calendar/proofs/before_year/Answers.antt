@@ -1,0 +1,8 @@
+-- `calendar::before_year` meets its contract: the formula of `Closed`. Assumes nothing.
+use mathlib.Core.Path.{sym}
+use Rattle.calendar.proofs.Closed.{before-year}
+use borrow.Author.Rules.{rules}
+use Rattle.calendar.proofs.before_year.Goals as goal
+
+pub returns : goal.returns
+returns c = sym (before-year c.args.y)
