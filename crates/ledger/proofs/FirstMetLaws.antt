@@ -68,6 +68,7 @@ module _ {X : Type 0} (same : Discrete X) where
 
   pub first_at-append : (l m : List X) (u : X) → Memᴰ u l → first_at same (l ++ m) u ≡ first_at same l u
   unfolding first_at
+  first_at-append [] m u h = elim h [ ]
   first_at-append (x ∷ xs) m u h = step (same x u) (Memᴰ.cases_cons h) (λ k. first_at-append xs m u k)
     where
       step : (d : Dec (x ≡ u)) → (u ≡ x) ⊎ Memᴰ u xs → (Memᴰ u xs → first_at same (xs ++ m) u ≡ first_at same xs u)
@@ -95,6 +96,7 @@ module _ {X : Type 0} (same : Discrete X) where
   -- ... and at most the length, of a UID that is there
   pub number_of-member : (l : List X) (u : X) → Memᴰ u l → (1 ≤ number_of same l u) × (number_of same l u ≤ length l)
   unfolding number_of first_at
+  number_of-member [] u h = elim h [ ]
   number_of-member (x ∷ xs) u h = step (same x u) (Memᴰ.cases_cons h) (λ k. number_of-member xs u k)
     where
       step : (d : Dec (x ≡ u)) → (u ≡ x) ⊎ Memᴰ u xs → (Memᴰ u xs → (1 ≤ suc (first_at same xs u)) × (suc (first_at same xs u) ≤ length xs))
@@ -114,6 +116,7 @@ module _ {X : Type 0} (same : Discrete X) where
 
   pub stands_for-number_of : (l : List X) (d u : X) → Memᴰ u l → stands_for l d (number_of same l u) ≡ u
   unfolding stands_for number_of first_at
+  stands_for-number_of [] d u h = elim h [ ]
   stands_for-number_of (x ∷ xs) d u h = step (same x u) (Memᴰ.cases_cons h) (λ k. stands_for-number_of xs d u k)
     where
       step : (e : Dec (x ≡ u)) → (u ≡ x) ⊎ Memᴰ u xs → (Memᴰ u xs → get_or xs (first_at same xs u) d ≡ u)
@@ -181,6 +184,7 @@ module _ {X : Type 0} (same : Discrete X) where
 
   pub learns-member : (l us : List X) (u : X) → Memᴰ u us → Memᴰ u (learns same l us)
   unfolding learns
+  learns-member l [] u x' = elim x' [ ]
   learns-member l (w ∷ us) u (Memᴰ.head p) = begins-member (learns-begins (learn same l w) us) (rw p (learn-member l w))
   learns-member l (w ∷ us) u (Memᴰ.tail m) = learns-member (learn same l w) us u m
 

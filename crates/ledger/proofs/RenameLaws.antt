@@ -24,6 +24,7 @@ map-agree {X} {Y} f g (u ∷ us) h = ap₂ (λ (y : Y) (l : List Y). y ∷ l) (h
 
 -- a function that keeps a list keeps each of its members
 pub map-member : {X : Type 0} (f : X → X) (us : List X) → map f us ≡ us → (u : X) → Memᴰ u us → f u ≡ u
+map-member {X = X} f [] e u x'' = elim x'' [ ]
 map-member f (w ∷ us) e u (Memᴰ.head p) = ap f p ∙ (head-eq_of_cons-eq e ∙ sym p)
 map-member f (w ∷ us) e u (Memᴰ.tail m) = map-member f us (tail-eq_of_cons-eq e) u m
 

@@ -166,6 +166,7 @@ sized-learns ks (x ∷ xs) s h = sized-learns (learn same_uid ks x) xs (sized-le
 -- ---- numbers among slots
 
 pub free_all-member : (c : ℕ) (us : List (List ℕ)) → FreeAll c us → (u : List ℕ) → Memᴰ u us → Free c u
+free_all-member c [] f u x'' = elim x'' [ ]
 free_all-member c (w ∷ us) f u (Memᴰ.head p) = rw p f.0
 free_all-member c (w ∷ us) f u (Memᴰ.tail m) = free_all-member c us f.1 u m
 

@@ -1,0 +1,13 @@
+-- `same_slot` meets its contract: one law for each way on in its loop or out of it. Assumes nothing.
+use mathlib.Core.Logic.{⊎_elim}
+use Prim.Native.Nat.{◌-◌}
+use Rattle.ledger.specs.Slots.{slot_size}
+use Rattle.ledger.proofs.SearchTurns.{Compared, compared-start, compared-differ, compared-equal, compared-end}
+use native.Mathlib.Omega.{arith}
+use Rattle.ledger.proofs.same_slot.Given as goal
+
+abbrev pub invariant-loop-i : goal.invariant-loop-i
+invariant-loop-i l = Compared l.ledger l.key l.at l.i l.same
+
+abbrev pub decreases-loop-i : goal.decreases-loop-i
+decreases-loop-i l = slot_size - l.i
