@@ -1,0 +1,12 @@
+-- `treatment::as_renamed` meets its contract. Assumes nothing.
+use borrow.Author.Tests.{eq-eqb, ne_eqb}
+use Rattle.treatment.proofs.as_renamed.Goals as goal
+
+pub returns-then-vr-eq-UI : goal.returns-then-vr-eq-UI
+returns-then-vr-eq-UI c = simp (eq-eqb _ _ c.if-vr-eq-UI.true)
+
+pub returns-then-vr-eq-SQ : goal.returns-then-vr-eq-SQ
+returns-then-vr-eq-SQ c = simp (ne_eqb _ _ c.if-vr-eq-UI.false, eq-eqb _ _ c.if-vr-eq-SQ.true)
+
+pub returns : goal.returns
+returns c = simp (ne_eqb _ _ c.if-vr-eq-UI.false, ne_eqb _ _ c.if-vr-eq-SQ.false)
