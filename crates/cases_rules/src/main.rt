@@ -14,16 +14,18 @@ mod slots;
 mod uid_values;
 mod uids;
 
-fn main() {
-    dates::all();
-    date_values::all();
-    uids::all();
-    uid_values::all();
-    slots::all();
-    entries::all();
-    lookups::all();
-    choices::all();
-    settings::numbers();
-    settings::shifts();
-    rows::all();
+use std::io;
+
+fn main(rt: HostRuntime) -> io::Result<()> {
+    dates::all(&rt)?;
+    date_values::all(&rt)?;
+    uids::all(&rt)?;
+    uid_values::all(&rt)?;
+    slots::all(&rt)?;
+    entries::all(&rt)?;
+    lookups::all(&rt)?;
+    choices::all(&rt)?;
+    settings::numbers(&rt)?;
+    settings::shifts(&rt)?;
+    rows::all(&rt)
 }

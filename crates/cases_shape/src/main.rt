@@ -6,23 +6,25 @@ mod pieces;
 mod report;
 mod wholes;
 
-fn main() {
-    wholes::fine();
-    wholes::sequences();
-    elements::short();
-    elements::past_the_end();
-    elements::groups();
-    elements::order();
-    elements::marks();
-    elements::vrs();
-    elements::odd();
-    elements::undefined();
-    items::short();
-    items::tags();
-    items::lengths();
-    wholes::ends();
-    wholes::depths();
-    wholes::ninth();
-    wholes::depths_elsewhere();
-    wholes::long();
+use std::io;
+
+fn main(rt: HostRuntime) -> io::Result<()> {
+    wholes::fine(&rt)?;
+    wholes::sequences(&rt)?;
+    elements::short(&rt)?;
+    elements::past_the_end(&rt)?;
+    elements::groups(&rt)?;
+    elements::order(&rt)?;
+    elements::marks(&rt)?;
+    elements::vrs(&rt)?;
+    elements::odd(&rt)?;
+    elements::undefined(&rt)?;
+    items::short(&rt)?;
+    items::tags(&rt)?;
+    items::lengths(&rt)?;
+    wholes::ends(&rt)?;
+    wholes::depths(&rt)?;
+    wholes::ninth(&rt)?;
+    wholes::depths_elsewhere(&rt)?;
+    wholes::long(&rt)
 }
