@@ -16,7 +16,7 @@ const MOST_ENTRIES: u64 = 256;
 const MOST_VALUE: usize = 64;
 
 // A number that was read, and the place past it.
-#[derive(Drop)]
+#[derive(Clone, Copy)]
 pub enum Num {
     Got(u64, usize),
     Bad,

@@ -25,7 +25,7 @@ pub enum Opt {
 }
 
 // An option that was chosen, or that there is none.
-#[derive(Drop)]
+#[derive(Clone, Copy)]
 pub enum Chosen {
     Yes(Opt),
     No,

@@ -12,7 +12,7 @@ use ledger::Slot;
 const UI_HEADER: usize = 8;
 
 // How a renaming ended: no slot was free for a UID; or the output's next place, and the new count of slots in use.
-#[derive(Drop)]
+#[derive(Clone, Copy)]
 pub enum Renamed {
     Full,
     To(usize, usize),
