@@ -1,6 +1,8 @@
 // Cases of document 01's rules outside the shape: dates, UIDs, the ledger, lists, options and the action table. A line says its case and
 // then the answer; what it must say stands in `stdout`, written beforehand: the dates by another calendar and by known day counts,
 // the options from document 001, the table's letters from the page of document 002, all else from document 01 and the readings.
+#![tactic(auto)]
+
 mod cases;
 mod choices;
 mod date_values;
