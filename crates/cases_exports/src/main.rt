@@ -1,5 +1,7 @@
 // The sample exports of document 01, run through the station. A line says its case and then the report; a second line has the
 // output's bytes. What they must say stands in `stdout`, written from document 01 beforehand.
+#![tactic(auto)]
+
 mod built;
 mod report;
 mod samples;
