@@ -25,14 +25,14 @@ pub struct Date {
 }
 
 // The moved date, or refusal 12.
-#[derive(Drop)]
+#[derive(Clone, Copy)]
 pub enum Moved {
     To(Date),
     Refused,
 }
 
 // The number that two characters spell, where they are digits.
-#[derive(Drop)]
+#[derive(Clone, Copy)]
 enum Two {
     Number(u32),
     NoDigits,

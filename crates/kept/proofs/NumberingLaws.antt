@@ -248,6 +248,7 @@ module _ {X Y : Type 0} (same : Discrete Y) (d : X) (f : X → Y) where
 
   origin-member : (ns : List X) (v : Y) → Memᴰ v (map f ns) → Memᴰ (origin ns v) ns × (f (origin ns v) ≡ v)
   unfolding origin first_at
+  origin-member [] v i = elim i [ ]
   origin-member (x ∷ ns) v i = step (same (f x) v) (Memᴰ.cases_cons i) (λ k. origin-member ns v k)
     where
       At : ℕ → List X → Type 0

@@ -93,6 +93,7 @@ AllUids us = (u : Uid) → Memᴰ u us → is_uid u ≡ true
 
 all-member : (us : List Uid) → every is_uid us ≡ true → AllUids us
 unfolding every
+all-member [] e u x'' = elim x'' [ ]
 all-member (w ∷ us) e u (Memᴰ.head p) = ap is_uid p ∙ ((and-eq-true_iff (is_uid w) (every is_uid us)).0 e).0
 all-member (w ∷ us) e u (Memᴰ.tail m) = all-member us ((and-eq-true_iff (is_uid w) (every is_uid us)).0 e).1 u m
 

@@ -35,7 +35,7 @@ const NO_TAG: u64 = 0xFFFE_0000;
 // Elements that stand side by side, or items: where they begin, where they have to stop, whether an end mark closes them before that, and
 // how many more items may nest in them. A walk takes it as one thing, and reads it but does not change it, so what else a walk has to know
 // of its container will be a field here, and no parameter of the walks.
-#[derive(Drop)]
+#[derive(Clone, Copy)]
 pub struct Container {
     pub from: usize,
     pub end: usize,
@@ -44,7 +44,7 @@ pub struct Container {
 }
 
 // What stands where an element may.
-#[derive(Drop)]
+#[derive(Clone, Copy)]
 pub enum Head {
     // a fault: its number
     Bad(u8),
@@ -57,7 +57,7 @@ pub enum Head {
 }
 
 // What stands where an item may.
-#[derive(Drop)]
+#[derive(Clone, Copy)]
 pub enum Spot {
     // a fault: its number
     Wrong(u8),
@@ -68,7 +68,7 @@ pub enum Spot {
 }
 
 // What a walk finds: no fault, and the place past what it walked; or the first fault's number and offset.
-#[derive(Drop)]
+#[derive(Clone, Copy)]
 pub enum Shape {
     Fine(usize),
     Fault(u8, usize),

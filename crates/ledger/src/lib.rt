@@ -12,7 +12,7 @@ pub const SLOT_SIZE: usize = 64;
 pub const MOST_SLOTS: usize = 1024;
 
 // The number of a UID's slot, counted from 1, and the new count of slots in use; or no slot is free for it.
-#[derive(Drop)]
+#[derive(Clone, Copy)]
 pub enum Slot {
     Full,
     At(usize, usize),

@@ -1,4 +1,5 @@
 // Replacement lists: their rule, and the lookup over the study's and the site's.
+#![tactic(auto)]
 ghost use Rattle.std.specs.Prelude.{◌≡◌, ◌≤◌, length};
 ghost use Rattle.basis.specs.Bytes.{part};
 ghost use Rattle.basis.specs.Choice.{every};
@@ -15,14 +16,14 @@ const MOST_ENTRIES: u64 = 256;
 const MOST_VALUE: usize = 64;
 
 // A number that was read, and the place past it.
-#[derive(Drop)]
+#[derive(Clone, Copy)]
 pub enum Num {
     Got(u64, usize),
     Bad,
 }
 
 // An entry that was read: its tag, and the places between which its value stands.
-#[derive(Drop)]
+#[derive(Clone, Copy)]
 pub struct Entry {
     pub tag: u64,
     pub from: usize,
@@ -30,7 +31,7 @@ pub struct Entry {
 }
 
 // An entry, or that there is none.
-#[derive(Drop)]
+#[derive(Clone, Copy)]
 pub enum Found {
     At(Entry),
     Nothing,

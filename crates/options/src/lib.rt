@@ -1,5 +1,6 @@
 // The options as a type with associated constants for their code values and meanings, and constructors from the option number;
 // and the judgement of the settings.
+#![tactic(auto)]
 ghost use Rattle.std.specs.Prelude.{◌≡◌, ◌+◌, ◌≤◌, ◌<◌, ◌^◌, nat_abs, length};
 ghost use Rattle.std.proofs.Math.Option.{none, some};
 ghost use Rattle.basis.specs.Choice.{pick};
@@ -13,7 +14,7 @@ const MOST_NUMBER: u64 = 63;
 const MOST_SHIFT: u64 = 36_500;
 
 // The options, in the order of their bits.
-#[derive(Drop)]
+#[derive(Clone, Copy)]
 pub enum Opt {
     FullDates,
     ModifiedDates,
@@ -24,7 +25,7 @@ pub enum Opt {
 }
 
 // An option that was chosen, or that there is none.
-#[derive(Drop)]
+#[derive(Clone, Copy)]
 pub enum Chosen {
     Yes(Opt),
     No,

@@ -52,6 +52,7 @@ module _ {I : Type 0} (i : I) (c : Condition I) (cs : List (Condition I)) where
   first_of-next e = rw (e, first_of)
 
 pub first-from : {I : Type 0} (cs : List (Condition I)) (i : I) (n o : ℕ) → First i n o cs → first_of cs i ≡ refused n o
+first-from {I = I} [] i n o x' = elim x' [ ]
 first-from (c ∷ cs) i n o (here e) = first_of-holds i c cs o e
 first-from (c ∷ cs) i n o (later e f) = first_of-next i c cs e ∙ first-from cs i n o f
 

@@ -13,7 +13,7 @@ use treatment::SettingNumbers;
 use write_state::{Progress, Walk};
 
 // What a run hands back.
-#[derive(Drop)]
+#[derive(Clone, Copy)]
 pub enum HandedBack {
     // a refusal: its number and its offset
     Refused(u8, usize),

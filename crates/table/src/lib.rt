@@ -12,7 +12,7 @@ ghost use Rattle.table.specs.Action.{action_for, on_row, action_of};
 mod e1_1;
 
 // What is done with an element. `letter_for` of specs/Action.antt gives document 01's letter for each.
-#[derive(Drop)]
+#[derive(Clone, Copy)]
 pub enum Action {
     // X
     Remove,

@@ -7,14 +7,14 @@ ghost use Rattle.treatment.specs.Fates.{is_top, as_d, by_action, fate_of, walks_
 use table::Action;
 
 // The settings that are numbers: the option number, and the date shift in days. They go down through every walk unchanged.
-#[derive(Drop)]
+#[derive(Clone, Copy)]
 pub struct SettingNumbers {
     pub options: u64,
     pub days: i32,
 }
 
 // Where an element stands.
-#[derive(Drop)]
+#[derive(Clone, Copy)]
 pub enum Level {
     // on the top level of the data set
     Top,
@@ -25,7 +25,7 @@ pub enum Level {
 }
 
 // What happens to an element.
-#[derive(Drop)]
+#[derive(Clone, Copy)]
 pub enum Fate {
     // it is left out
     Removed,

@@ -12,7 +12,7 @@ ghost use Rattle.view.specs.Met.{met_of};
 use layout::{Container, Head, Shape};
 
 // What the search answers.
-#[derive(Drop)]
+#[derive(Clone, Copy)]
 pub enum Sought {
     // the element: its VR, where the part after its length field begins, and the place past it
     At(u64, usize, usize),
@@ -23,7 +23,7 @@ pub enum Sought {
 }
 
 // What the view answers.
-#[derive(Drop)]
+#[derive(Clone, Copy)]
 pub enum ViewAnswer {
     // the attribute: where the part that is shown begins, and the place past it
     Found(usize, usize),

@@ -76,7 +76,7 @@ pub const UV: u64 = 0x5655;
 const ROOM: usize = 14;
 
 // How an element's header goes on after its VR.
-#[derive(Drop)]
+#[derive(Clone, Copy)]
 pub enum Kind {
     // no VR of document 01
     Unknown,
@@ -167,7 +167,7 @@ pub fn served_by_lists(vr: u64) -> bool
 }
 
 // A dummy: `len` bytes, and zeros after them.
-#[derive(Drop)]
+#[derive(Clone, Copy)]
 pub struct Dummy {
     pub bytes: [u8; ROOM],
     pub len: usize,

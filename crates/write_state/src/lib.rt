@@ -1,5 +1,6 @@
 // How far the walk that writes is: the state that goes in and comes back by value, from element to element. What each step promises stands
 // in specs/Wrote.antt.
+#![tactic(auto)]
 ghost use Rattle.std.specs.Prelude.{◌≡◌};
 ghost use Rattle.write_state.specs.Steps.{at_place, one_kept, one_replaced, one_renamed, one_removed};
 ghost use Rattle.write_state.specs.Wrote.{Countable};
@@ -7,7 +8,7 @@ ghost use Rattle.write_state.specs.Wrote.{Countable};
 use treatment::Level;
 
 // The output's next place, the ledger's slots in use, and the four counts.
-#[derive(Drop)]
+#[derive(Clone, Copy)]
 pub struct Progress {
     pub pos: usize,
     pub used: usize,
@@ -18,21 +19,21 @@ pub struct Progress {
 }
 
 // How a walk ended: no slot was free for a UID; or the place past what was walked, and how far the walk is.
-#[derive(Drop)]
+#[derive(Clone, Copy)]
 pub enum Walk {
     Stop,
     To(usize, Progress),
 }
 
 // Where an element stands: its level, and the least tag that may stand there.
-#[derive(Drop)]
+#[derive(Clone, Copy)]
 pub struct Standing {
     pub level: Level,
     pub low: u64,
 }
 
 // An element with its bytes: its tag, its VR, where its value or its items begin, and the place past them.
-#[derive(Drop)]
+#[derive(Clone, Copy)]
 pub struct Element {
     pub tag: u64,
     pub vr: u64,

@@ -1,5 +1,6 @@
 // A UI element of the output with its UIDs renamed, written whole at a place of a lent buffer, each UID found in the lent ledger or added
 // to it. What does not fit is left out, while the place counts on past the buffer's end.
+#![tactic(auto)]
 ghost use Rattle.std.specs.Prelude.{◌+◌, ◌-◌, ◌*◌, ◌≤◌, ◌<◌, ◌^◌, length};
 ghost use Rattle.uid.specs.Uid.{longest_root};
 ghost use Rattle.ledger.specs.Slots.{slots_of};
@@ -12,7 +13,7 @@ use ledger::Slot;
 const UI_HEADER: usize = 8;
 
 // How a renaming ended: no slot was free for a UID; or the output's next place, and the new count of slots in use.
-#[derive(Drop)]
+#[derive(Clone, Copy)]
 pub enum Renamed {
     Full,
     To(usize, usize),

@@ -1,0 +1,18 @@
+-- `lists::all_printable` meets its contract. The loop's invariant: what was found so far and what is left say the whole. Assumes nothing.
+use Prim.Native.Nat.{◌≤◌, ◌<◌, ◌-◌}
+use mathlib.Core.Path.{◌≡◌, refl, sym, ◌∙◌}
+use mathlib.Core.Bool.{◌&&◌}
+use Rattle.basis.specs.Bytes.{part}
+use Rattle.basis.specs.Choice.{every}
+use Rattle.lists.specs.Lists.{printable}
+use Rattle.lists.proofs.ListsLaws.{every-end, every-turn}
+use borrow.Author.Rules.{rules}
+use native.Mathlib.Omega.{arith}
+use Rattle.lists.proofs.all_printable.Goals as goal
+
+pub loop-i-preserved : goal.loop-i-preserved
+loop-i-preserved c =
+    c.loop-i.invariant ∙ every-turn printable c.args.s.now c.loop-i.i c.args.to c.loop-i.all c.loop-i-test.true c.requires c.is_printable-all.result c.is_printable-all.ensures
+
+pub returns : goal.returns
+returns c = sym (c.loop-i.invariant ∙ every-end printable c.args.s.now c.loop-i.i c.args.to c.loop-i.all c.loop-i-test.false)

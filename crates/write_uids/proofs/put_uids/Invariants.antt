@@ -1,0 +1,15 @@
+-- `write_uids::put_uids` meets its contract. Each way of the loop is a law of `proofs/Turns.antt`. Assumes nothing.
+use mathlib.Core.Path.{ap, ◌∙◌}
+use Prim.Native.Nat.{◌-◌}
+use lib.ListN.{length}
+use Rattle.buffer.proofs.Laws.{length-laid}
+use Rattle.write_uids.proofs.Turns.{Going, start, piece-place, stop-long, stop-full, uid-bound, same-ledger, done, go}
+use borrow.Author.Rules.{rules}
+use native.Mathlib.Omega.{arith}
+use Rattle.write_uids.proofs.put_uids.Given as goal
+
+abbrev pub invariant-loop-a : goal.invariant-loop-a
+invariant-loop-a l = Going l.s l.from l.stop l.root l.initial.ledger l.used l.initial.out l.pos l.ledger l.out l.a l.p l.n
+
+abbrev pub decreases-loop-a : goal.decreases-loop-a
+decreases-loop-a l = l.stop - l.a
