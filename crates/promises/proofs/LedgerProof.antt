@@ -87,6 +87,7 @@ takes-learns (new {u} {ks} {us} n l) = takes-learns l ∙ ap (λ (js : List (Lis
 
 pub number-numbered : (ks : List (List ℕ)) (k : List ℕ) → Memᴰ k ks → Numbered k ks (number_of same_uid ks k)
 unfolding number_of first_at
+number-numbered [] k m = elim m [ ]
 number-numbered (x ∷ xs) k m = step (same_uid x k) (Memᴰ.cases_cons m) (λ i. number-numbered xs k i)
   where
     step : (d : Dec (x ≡ k)) → (k ≡ x) ⊎ Memᴰ k xs → (Memᴰ k xs → Numbered k xs (suc (first_at same_uid xs k)))
@@ -129,6 +130,7 @@ uid_in-slot u f =
     if_pos (same_uid (slot_of (unslot (slot_of u))) (slot_of u)) (ap slot_of (unslot-slot_of u f)) (unslot (slot_of u)) (slot_of u) ∙ unslot-slot_of u f
 
 sized-member : (ks : List (List ℕ)) → Sized ks → (k : List ℕ) → Memᴰ k ks → length k ≡ slot_size
+sized-member [] h k x'' = elim x'' [ ]
 sized-member (j ∷ ks) h k (Memᴰ.head e) = ap length e ∙ h.0
 sized-member (j ∷ ks) h k (Memᴰ.tail m) = sized-member ks h.1 k m
 

@@ -17,11 +17,15 @@ use mathlib.Core.Path.{◌≡◌}
 use mathlib.Core.List.{List}
 use Prim.Native.Nat.{ℕ}
 use contract.Lifetimes.{Lfts}
-use denote.Ref.{Bor}
+use denote.Ref.{Bor, MutBor}
 use Rattle.basis.specs.Parts.{IsPart}
 
 abbrev pub Slice : Type 0
 Slice = Bor (List ℕ)
+
+-- a slice that is lent to be written
+abbrev pub Buffer : Type 0
+Buffer = MutBor (List ℕ)
 
 abbrev pub OneAnswer : (R : Type 0) → (R → Type 0) → Type 0
 OneAnswer R P = (r r' : R) → P r → P r' → r ≡ r'
@@ -33,18 +37,18 @@ abbrev pub OneRead2 : (n : ℕ) (R : Type 0) → (Lfts n → Slice → Slice →
 OneRead2 n R P =
     (κs κs' : Lfts n) (s s' t t' : Slice) (r r' : R) → s.now ≡ s'.now → t.now ≡ t'.now → P κs s t r → P κs' s' t' r' → r ≡ r'
 
-abbrev pub OneWrite : (n : ℕ) (R : Type 0) → (Lfts n → Slice → R → Slice → Type 0) → Type 0
+abbrev pub OneWrite : (n : ℕ) (R : Type 0) → (Lfts n → Buffer → R → Buffer → Type 0) → Type 0
 OneWrite n R P =
-    (κs κs' : Lfts n) (o o' p p' : Slice) (r r' : R) → o.now ≡ o'.now → P κs o r p → P κs' o' r' p' → (r ≡ r') × (p.now ≡ p'.now)
+    (κs κs' : Lfts n) (o o' p p' : Buffer) (r r' : R) → o.now ≡ o'.now → P κs o r p → P κs' o' r' p' → (r ≡ r') × (p.now ≡ p'.now)
 
-abbrev pub OneCopy : (n : ℕ) (R : Type 0) → (Lfts n → Slice → Slice → R → Slice → Type 0) → Type 0
+abbrev pub OneCopy : (n : ℕ) (R : Type 0) → (Lfts n → Slice → Buffer → R → Buffer → Type 0) → Type 0
 OneCopy n R P =
-    (κs κs' : Lfts n) (s s' o o' p p' : Slice) (r r' : R) → s.now ≡ s'.now → o.now ≡ o'.now → P κs s o r p → P κs' s' o' r' p'
+    (κs κs' : Lfts n) (s s' : Slice) (o o' p p' : Buffer) (r r' : R) → s.now ≡ s'.now → o.now ≡ o'.now → P κs s o r p → P κs' s' o' r' p'
     → (r ≡ r') × (p.now ≡ p'.now)
 
-abbrev pub OneCopy2 : (n : ℕ) (R : Type 0) → (Lfts n → Slice → Slice → Slice → R → Slice → Type 0) → Type 0
+abbrev pub OneCopy2 : (n : ℕ) (R : Type 0) → (Lfts n → Slice → Slice → Buffer → R → Buffer → Type 0) → Type 0
 OneCopy2 n R P =
-    (κs κs' : Lfts n) (s s' t t' o o' p p' : Slice) (r r' : R) → s.now ≡ s'.now → t.now ≡ t'.now → o.now ≡ o'.now → P κs s t o r p
+    (κs κs' : Lfts n) (s s' t t' : Slice) (o o' p p' : Buffer) (r r' : R) → s.now ≡ s'.now → t.now ≡ t'.now → o.now ≡ o'.now → P κs s t o r p
     → P κs' s' t' o' r' p' → (r ≡ r') × (p.now ≡ p'.now)
 
 -- ---- a part of a slice that is handed back

@@ -15,7 +15,7 @@ use Rattle.abi.proofs.corravisk_action.Reads as corravisk-action
 use Rattle.promises.specs.Running.{Lent, input, Runs, outcome}
 use Rattle.promises.specs.RunningC.{Calls}
 use Rattle.promises.proofs.RunningProof.{said, outcome-is, station-one}
-use Rattle.promises.proofs.OneOutcome.{Slice}
+use Rattle.promises.proofs.OneOutcome.{Slice, Buffer}
 use Rattle.promises.proofs.OneOutcomeWalks.{progress-one}
 
 -- ---- station
@@ -26,7 +26,7 @@ report-one used (Refused n o) (Done t) e f = cc
 report-one used (Done t) (Refused n o) e f = cc
 report-one used (Done t) (Done t') e f = ap Done (progress-one t t' (ap (λ z. z.written) f) (ap (λ z. z.used) f) (ap (λ z. z.counts) f))
 
-pub deidentify-one : (x y : Lent) (r r' : HandedBack) (l l' o o' : Slice) → input x ≡ input y → Runs x r l o → Runs y r' l' o'
+pub deidentify-one : (x y : Lent) (r r' : HandedBack) (l l' o o' : Buffer) → input x ≡ input y → Runs x r l o → Runs y r' l' o'
     → (r ≡ r') × (o.now ≡ o'.now) × (l.now ≡ l'.now)
 deidentify-one x y r r' l l' o o' i a b = (report-one x.used r r' same (one.0 ∙ ap (λ z. report z.used r') (sym i)), one.1, one.2)
   where
@@ -38,16 +38,16 @@ deidentify-one x y r r' l l' o o' i a b = (report-one x.used r r' same (one.0 �
 
 -- ---- abi
 
-pub corravisk-deidentify-one : (κs κs' : Lfts 6) (x y : Lent) (n n' l l' o o' m m' : Slice) → input x ≡ input y → Calls κs x n l o m
+pub corravisk-deidentify-one : (κs κs' : Lfts 6) (x y : Lent) (n n' l l' o o' m m' : Buffer) → input x ≡ input y → Calls κs x n l o m
     → Calls κs' y n' l' o' m' → (m.now ≡ m'.now) × (o.now ≡ o'.now) × (l.now ≡ l'.now)
 corravisk-deidentify-one κs κs' x y n n' l l' o o' m m' i a b = (cc, cc, cc)
 
-pub corravisk-view-one : (κs κs' : Lfts 2) (tag : ℕ) (s s' o o' p p' : Slice) → s.now ≡ s'.now
+pub corravisk-view-one : (κs κs' : Lfts 2) (tag : ℕ) (s s' : Slice) (o o' p p' : Buffer) → s.now ≡ s'.now
     → corravisk-view.Learnt κs (s, (tag, (o, tt))) tt (s, (tag, (p, tt))) → corravisk-view.Learnt κs' (s', (tag, (o', tt))) tt (s', (tag, (p', tt)))
     → p.now ≡ p'.now
 corravisk-view-one κs κs' tag s s' o o' p p' e a b = cc
 
-pub corravisk-action-one : (κs κs' : Lfts 1) (options top tag vr : ℕ) (o o' p p' : Slice)
+pub corravisk-action-one : (κs κs' : Lfts 1) (options top tag vr : ℕ) (o o' p p' : Buffer)
     → corravisk-action.Learnt κs (options, (top, (tag, (vr, (o, tt))))) tt (options, (top, (tag, (vr, (p, tt)))))
     → corravisk-action.Learnt κs' (options, (top, (tag, (vr, (o', tt))))) tt (options, (top, (tag, (vr, (p', tt))))) → p.now ≡ p'.now
 corravisk-action-one κs κs' options top tag vr o o' p p' a b = cc

@@ -5,7 +5,7 @@ use mathlib.Core.Bool.{Bool}
 use Prim.Native.Nat.{ℕ, suc, ◌-◌}
 use native.Mathlib.Omega.{arith}
 use contract.Lifetimes.{Lfts}
-use denote.Ref.{Bor}
+use denote.Ref.{MutBor}
 use Rattle.layout.specs.declared.Head.{Head}
 use Rattle.layout.specs.declared.Spot.{Spot}
 use Rattle.layout.specs.declared.Shape.{Shape}
@@ -61,7 +61,7 @@ search-one tag κs κs' s s' r r' e a b = cc
 pub answer-to-one : (tag : ℕ) → OneRead 1 ViewAnswer (λ κs s r. answer-to.Learnt κs (s, (tag, tt)) r (s, (tag, tt)))
 answer-to-one tag κs κs' s s' r r' e a b = cc
 
-abbrev pub Views : Lfts 4 → ℕ → Slice → Bor ℕ → Bor ℕ → Bor ℕ → Slice → Bor ℕ → Bor ℕ → Bor ℕ → Type 0
+abbrev pub Views : Lfts 4 → ℕ → Slice → MutBor ℕ → MutBor ℕ → MutBor ℕ → Slice → MutBor ℕ → MutBor ℕ → MutBor ℕ → Type 0
 Views κs tag s n o f r n₁ o₁ f₁ = view.Learnt κs (s, (tag, (n, (o, (f, tt))))) r (s, (tag, (n₁, (o₁, (f₁, tt)))))
 
 shows-one : (x : ViewAnswer) (r r' s s' : Slice) → s.now ≡ s'.now → Shows x r s → Shows x r' s' → SamePart (s.ref_ptr ≡ s'.ref_ptr) r r'
@@ -70,7 +70,7 @@ shows-one Absent r r' s s' e a b = part-one r r' s s' 0 0 e a b
 shows-one (Refused n o) r r' s s' e a b = part-one r r' s s' 0 0 e a b
 
 -- the numbers that were there before the call don't matter
-pub view-one : (κs κs' : Lfts 4) (tag : ℕ) (s s' : Slice) (n n' o o' f f' : Bor ℕ) (r r' : Slice) (n₁ n₁' o₁ o₁' f₁ f₁' : Bor ℕ)
+pub view-one : (κs κs' : Lfts 4) (tag : ℕ) (s s' : Slice) (n n' o o' f f' : MutBor ℕ) (r r' : Slice) (n₁ n₁' o₁ o₁' f₁ f₁' : MutBor ℕ)
     → s.now ≡ s'.now → Views κs tag s n o f r n₁ o₁ f₁ → Views κs' tag s' n' o' f' r' n₁' o₁' f₁'
     → (n₁.now ≡ n₁'.now) × (o₁.now ≡ o₁'.now) × (f₁.now ≡ f₁'.now) × SamePart (s.ref_ptr ≡ s'.ref_ptr) r r'
 view-one κs κs' tag s s' n n' o o' f f' r r' n₁ n₁' o₁ o₁' f₁ f₁' e a b =

@@ -17,7 +17,7 @@ use Rattle.station.proofs.early_refusal.Reads as early-refusal
 use Rattle.station.proofs.judge.Reads as judge
 use Rattle.station.proofs.refuse.Reads as refuse
 use Rattle.station.proofs.finish.Reads as finish
-use Rattle.promises.proofs.OneOutcome.{Slice}
+use Rattle.promises.proofs.OneOutcome.{Slice, Buffer}
 
 abbrev pub Early : Lfts 4 → ℕ → ℕ → ℤ → Slice → Slice → Slice → Slice → ℕ → ℕ → Type 0
 Early κs len options shift root study site l used r =
@@ -38,13 +38,13 @@ judge-one κs κs' n rows rows' s s' r r' e a b = cc (a.right w has, b.right w h
     has : Given n w
     has = record { options_are = refl; shift_is = refl }
 
-pub refuse-one : (κs κs' : Lfts 2) (number offset used : ℕ) (l l' o o' m m' p p' : Slice) (r r' : HandedBack) → l.now ≡ l'.now → o.now ≡ o'.now
+pub refuse-one : (κs κs' : Lfts 2) (number offset used : ℕ) (l l' o o' m m' p p' : Buffer) (r r' : HandedBack) → l.now ≡ l'.now → o.now ≡ o'.now
     → refuse.Learnt κs (number, (offset, (l, (used, (o, tt))))) r (number, (offset, (m, (used, (p, tt)))))
     → refuse.Learnt κs' (number, (offset, (l', (used, (o', tt))))) r' (number, (offset, (m', (used, (p', tt)))))
     → (r ≡ r') × (p.now ≡ p'.now) × (m.now ≡ m'.now)
 refuse-one κs κs' number offset used l l' o o' m m' p p' r r' d e a b = (cc, cc, cc)
 
-pub finish-one : (κs κs' : Lfts 2) (walk : Walk) (used : ℕ) (l l' o o' m m' p p' : Slice) (r r' : HandedBack) → l.now ≡ l'.now → o.now ≡ o'.now
+pub finish-one : (κs κs' : Lfts 2) (walk : Walk) (used : ℕ) (l l' o o' m m' p p' : Buffer) (r r' : HandedBack) → l.now ≡ l'.now → o.now ≡ o'.now
     → finish.Learnt κs (walk, (l, (used, (o, tt)))) r (walk, (m, (used, (p, tt))))
     → finish.Learnt κs' (walk, (l', (used, (o', tt)))) r' (walk, (m', (used, (p', tt))))
     → (r ≡ r') × (p.now ≡ p'.now) × (m.now ≡ m'.now)

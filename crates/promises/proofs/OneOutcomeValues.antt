@@ -16,7 +16,7 @@ use Rattle.write_state.proofs.one_kept.Reads as one_kept
 use Rattle.write_state.proofs.one_replaced.Reads as one_replaced
 use Rattle.write_state.proofs.one_renamed.Reads as one_renamed
 use Rattle.write_state.proofs.one_removed.Reads as one_removed
-use Rattle.write_values.proofs.put-same.Reads as put-same
+use Rattle.write_values.proofs.put_same.Reads as put-same
 use Rattle.write_values.proofs.put_dates.Reads as put-dates
 use Rattle.write_values.proofs.put_text.Reads as put-text
 use Rattle.write_values.proofs.put_emptied.Reads as put-emptied

@@ -46,7 +46,7 @@ use Rattle.write_element.proofs.act.Reads as act
 use Rattle.write_uids.proofs.put_renamed.Reads as put-renamed
 use Rattle.judge_values.proofs.first_fault.Reads as first-fault
 use Rattle.write_walk.proofs.write.Reads as write
-use Rattle.promises.proofs.OneOutcome.{Slice}
+use Rattle.promises.proofs.OneOutcome.{Slice, Buffer}
 
 -- ---- rename
 
@@ -58,12 +58,12 @@ renamed-one o p p' pos xs l m m' ks more used Full (To e n) c d a b = absurd (om
 renamed-one o p p' pos xs l m m' ks more used (To e n) Full c d a b = absurd (omega (arith, c.3, a.2))
 renamed-one o p p' pos xs l m m' ks more used (To e n) (To e' n') c d a b = (cc, λ _. (cc, cc))
 
-abbrev pub Renames : Lfts 4 → ℕ → ℕ → ℕ → ℕ → ℕ → Slice → Slice → Slice → Slice → Renamed → Slice → Slice → Type 0
+abbrev pub Renames : Lfts 4 → ℕ → ℕ → ℕ → ℕ → ℕ → Slice → Slice → Buffer → Buffer → Renamed → Buffer → Buffer → Type 0
 Renames κs tag from to used pos s root l o r m p =
     put-renamed.Learnt κs (tag, (s, (from, (to, (root, (l, (used, (o, (pos, tt)))))))))
     r (tag, (s, (from, (to, (root, (m, (used, (p, (pos, tt)))))))))
 
-pub put-renamed-one : (κs κs' : Lfts 4) (tag from to used pos : ℕ) (s s' root root' l l' o o' m m' p p' : Slice) (r r' : Renamed) (us : List (List ℕ))
+pub put-renamed-one : (κs κs' : Lfts 4) (tag from to used pos : ℕ) (s s' root root' : Slice) (l l' o o' m m' p p' : Buffer) (r r' : Renamed) (us : List (List ℕ))
     → s.now ≡ s'.now → root.now ≡ root'.now → l.now ≡ l'.now → o.now ≡ o'.now → uids_of (part s.now from to) ≡ some us
     → Renames κs tag from to used pos s root l o r m p → Renames κs' tag from to used pos s' root' l' o' r' m' p'
     → (r ≡ r') × (r ≢ Full → (m.now ≡ m'.now) × (p.now ≡ p'.now))
@@ -105,11 +105,11 @@ ends-one o₀ l₀ base k o o' l l' from end more one next st t (On n u) (On n' 
   λ _. (a.1.ledger_is ∙ sym b.1.ledger_is, a.1.out_is ∙ sym b.1.out_is),
 )
 
-abbrev pub Acts : Lfts 5 → Fate → SettingNumbers → Slice → Slice → Slice → Element → Slice → Slice → Slice → Progress → Walk → Slice → Slice → Type 0
+abbrev pub Acts : Lfts 5 → Fate → SettingNumbers → Slice → Slice → Slice → Element → Slice → Buffer → Buffer → Progress → Walk → Buffer → Buffer → Type 0
 Acts κs f n root study site e s l o t r m p =
     act.Learnt κs (f, (n, (root, (study, (site, (e, (s, (l, (o, (t, tt)))))))))) r (f, (n, (root, (study, (site, (e, (s, (m, (p, (t, tt))))))))))
 
-pub act-one : (κs κs' : Lfts 5) (f : Fate) (n : SettingNumbers) (root root' study study' site site' : Slice) (x : Element) (s s' l l' o o' m m' p p' : Slice) (t : Progress)
+pub act-one : (κs κs' : Lfts 5) (f : Fate) (n : SettingNumbers) (root root' study study' site site' : Slice) (x : Element) (s s' : Slice) (l l' o o' m m' p p' : Buffer) (t : Progress)
     (r r' : Walk) (next : ℕ) (st st' : State) (o₀ l₀ : List ℕ) (base : ℕ) → root.now ≡ root'.now → study.now ≡ study'.now → site.now ≡ site'.now → s.now ≡ s'.now
     → l.now ≡ l'.now → o.now ≡ o'.now
     → ActPass (settings_of n root.now study.now site.now) f x.tag x.vr s.now x.body x.past next st st' → Holds o₀ l₀ base o.now l.now t st
@@ -131,17 +131,17 @@ ended-one i es past o p p' l m m' pos (On n t) Stop a b = absurd (omega (arith, 
 ended-one i es past o p p' l m m' pos (On n t) (On n' t') a b =
     (ap₂ On (a.6 ∙ sym b.6) (progress-one t t' (a.0 ∙ sym b.0) (a.2 ∙ sym b.2) (a.4 ∙ sym b.4)), λ _. (a.3 ∙ sym b.3, a.1 ∙ sym b.1))
 
-abbrev pub Writes : Lfts 6 → Slice → SettingNumbers → Slice → Slice → Slice → Slice → Slice → ℕ → Slice → ℕ → Walk → Slice → Slice → Type 0
+abbrev pub Writes : Lfts 6 → Slice → SettingNumbers → Slice → Slice → Slice → Slice → Buffer → ℕ → Buffer → ℕ → Walk → Buffer → Buffer → Type 0
 Writes κs rows n root study site s l used o pos r m p =
     write.Learnt κs (rows, (n, (root, (study, (site, (s, (l, (used, (o, (pos, tt)))))))))) r (rows, (n, (root, (study, (site, (s, (m, (used, (p, (pos, tt))))))))))
 
 -- the input that a call of `write` is about
-abbrev input_for : SettingNumbers → Slice → Slice → Slice → Slice → Slice → ℕ → Input
+abbrev input_for : SettingNumbers → Slice → Slice → Slice → Slice → Buffer → ℕ → Input
 input_for n root study site s l used =
     record { lent = explicitly s.now; settings = settings_of n root.now study.now site.now; ledger = l.now; used = used; room = 0 }
 
-pub write-one : (κs κs' : Lfts 6) (rows rows' : Slice) (n : SettingNumbers) (root root' study study' site site' s s' l l' : Slice) (used : ℕ) (o o' : Slice) (pos : ℕ)
-    (r r' : Walk) (m m' p p' : Slice) (es : Elements Place) (past : ℕ) → root.now ≡ root'.now → study.now ≡ study'.now → site.now ≡ site'.now → s.now ≡ s'.now
+pub write-one : (κs κs' : Lfts 6) (rows rows' : Slice) (n : SettingNumbers) (root root' study study' site site' s s' : Slice) (l l' : Buffer) (used : ℕ) (o o' : Buffer) (pos : ℕ)
+    (r r' : Walk) (m m' p p' : Buffer) (es : Elements Place) (past : ℕ) → root.now ≡ root'.now → study.now ≡ study'.now → site.now ≡ site'.now → s.now ≡ s'.now
     → l.now ≡ l'.now → o.now ≡ o'.now → read_as (input_for n root study site s l used) ≡ good es past
     → first_fault es (settings_of n root.now study.now site.now) Top ≡ none
     → Writes κs rows n root study site s l used o pos r m p → Writes κs' rows' n root' study' site' s' l' used o' pos r' m' p'

@@ -8,7 +8,7 @@ use Prim.Native.Nat.{ℕ, zero, suc, ◌≤◌}
 use native.Mathlib.Omega.{arith}
 use lib.ListN.{length}
 use contract.Lifetimes.{Lfts}
-use denote.Ref.{Bor}
+use denote.Ref.{MutBor}
 use Rattle.layout.specs.Source.{Source}
 use Rattle.treatment.specs.Settings.{Settings}
 use Rattle.outcome.specs.Input.{Input}
@@ -31,7 +31,7 @@ use Rattle.promises.proofs.RunningBatches.{as-started, ran-next}
 numbers-in : (ns : List ℕ) (r : Report) → ns ≡ report_numbers r → (length ns ≡ 8) × (report_in ns ≡ r)
 numbers-in ns r e = (ap length e, ap report_in e ∙ report-eq (report_in (report_numbers r)) r refl refl refl refl refl)
 
-module _ (κs : Lfts 6) (x : Lent) (n l o m : Bor (List ℕ)) (c : Calls κs x n l o m) where
+module _ (κs : Lfts 6) (x : Lent) (n l o m : MutBor (List ℕ)) (c : Calls κs x n l o m) where
   told : (m.now ≡ report_numbers (report_of (input x))) × (o.now ≡ output_of (input x)) × (l.now ≡ ledger_of (input x))
   told = (search, search, search)
 

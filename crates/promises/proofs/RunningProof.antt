@@ -15,7 +15,7 @@ use Prim.Native.Nat.{ℕ, ◌<◌, ◌≤◌}
 use native.Mathlib.Omega.{arith}
 use lib.Dec.{ltb}
 use lib.ListN.{length, length-append}
-use denote.Ref.{Bor}
+use denote.Ref.{MutBor}
 use Rattle.basis.specs.Choice.{fork}
 use Rattle.vr.specs.Names.{CS}
 use Rattle.vr.specs.Vr.{kind_of}
@@ -39,7 +39,7 @@ use Rattle.promises.proofs.Demand1Proof.{demand1}
 use Rattle.promises.proofs.Demand2Proof.{demand2}
 use Rattle.promises.proofs.Demand2Accepted.{exports-accepted}
 
-pub said : (x : Lent) (r : HandedBack) (l o : Bor (List ℕ)) → Runs x r l o
+pub said : (x : Lent) (r : HandedBack) (l o : MutBor (List ℕ)) → Runs x r l o
     → (report x.used r ≡ report_of (input x)) × (o.now ≡ output_of (input x)) × (l.now ≡ ledger_of (input x))
 said x r l o p = (search, search, search)
 
@@ -122,7 +122,7 @@ running-demand2-other x r l o ran clear q out k e =
 
 -- ---- one outcome
 
-pub station-one : (x y : Lent) (r r' : HandedBack) (l l' o o' : Bor (List ℕ)) → input x ≡ input y → Runs x r l o → Runs y r' l' o'
+pub station-one : (x y : Lent) (r r' : HandedBack) (l l' o o' : MutBor (List ℕ)) → input x ≡ input y → Runs x r l o → Runs y r' l' o'
     → (report x.used r ≡ report y.used r') × (o.now ≡ o'.now) × (l.now ≡ l'.now)
 station-one x y r r' l l' o o' i p q =
     let a = said x r l o p in

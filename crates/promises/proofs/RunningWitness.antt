@@ -11,7 +11,7 @@ use mathlib.Core.Path.{◌≡◌, refl, sym, ap, ap₂, ◌∙◌}
 use mathlib.Core.List.{List, [], ◌∷◌}
 use Prim.Native.Nat.{ℕ}
 use lib.ListN.{replicate, length-replicate}
-use denote.Ref.{MutBor, at_last}
+use denote.Ref.{Bor, MutBor, at_last}
 use Rattle.basis.specs.Bytes.{AllBytes}
 use Rattle.layout.specs.Source.{Encoding, explicit, Source, explicitly}
 use Rattle.treatment.specs.Settings.{Settings}
@@ -52,19 +52,22 @@ can-run x = ((tells (input x)).0, (refl, refl))
 
 -- ---- a call for each input of the definitions
 
--- a reference to these bytes, in a block of its own
+-- a reference to these bytes, in a block of its own: to read them, and to write them
+abbrev pub to_read : ℕ → List ℕ → Bor (List ℕ)
+to_read block xs = record { ref_ptr = (block, 0); now = xs }
+
 abbrev pub to : ℕ → List ℕ → MutBor (List ℕ)
 to block xs = record { ref_ptr = (block, 0); ghost_name = block; now = xs }
 
 abbrev pub lent_for : Input → Lent
 lent_for i = record {
   lifetimes = ([], ([], ([], ([], ([], tt)))));
-  lent = to 0 i.lent.bytes;
+  lent = to_read 0 i.lent.bytes;
   options = i.settings.options;
   shift = i.settings.shift;
-  root = to 1 i.settings.root;
-  study = to 2 i.settings.study;
-  site = to 3 i.settings.site;
+  root = to_read 1 i.settings.root;
+  study = to_read 2 i.settings.study;
+  site = to_read 3 i.settings.site;
   ledger = to 4 i.ledger;
   used = i.used;
   out = to 5 (replicate i.room 0);

@@ -13,7 +13,7 @@
 --     RunningDemand3    the outputs of two batches are equal exactly when their kept contents are, up to one renaming
 use Rattle.std.specs.Prelude.{◌≡◌, ◌↔◌, List, [], ◌∷◌, map, ℕ, ℤ, length, take}
 use contract.Lifetimes.{Lfts}
-use Rattle.std.specs.Borrow.{Bor}
+use Rattle.std.specs.Borrow.{Bor, MutBor}
 use Rattle.basis.specs.Bytes.{AllBytes}
 use Rattle.layout.specs.Source.{Source, explicitly}
 use Rattle.treatment.specs.Settings.{Settings}
@@ -37,16 +37,16 @@ pub record Lent : Type 0 where
   pub root : Bor (List ℕ)
   pub study : Bor (List ℕ)
   pub site : Bor (List ℕ)
-  pub ledger : Bor (List ℕ)
+  pub ledger : MutBor (List ℕ)
   pub used : ℕ
-  pub out : Bor (List ℕ)
+  pub out : MutBor (List ℕ)
 
 abbrev pub input : Lent → Input
 input x =
     input_of (explicitly x.lent.now) (told x.options x.shift x.root.now x.study.now x.site.now) x.ledger.now x.used
     (length x.out.now)
 
-abbrev pub Runs : Lent → HandedBack → Bor (List ℕ) → Bor (List ℕ) → Type 0
+abbrev pub Runs : Lent → HandedBack → MutBor (List ℕ) → MutBor (List ℕ) → Type 0
 Runs x r l out =
     station.Learnt x.lifetimes (x.lent, (x.options, (x.shift, (x.root, (x.study, (x.site, (x.ledger, (x.used, (x.out, tt)))))))))
     r (x.lent, (x.options, (x.shift, (x.root, (x.study, (x.site, (l, (x.used, (out, tt)))))))))
@@ -56,16 +56,16 @@ outcome (Refused n offset) = refused n offset
 outcome (Done t) = done
 
 abbrev pub RunningDemand1 : Type 0
-RunningDemand1 = (x : Lent) (r : HandedBack) (l out : Bor (List ℕ)) → Runs x r l out → EndsRightly (input x) (outcome r) (report x.used r) out.now l.now
+RunningDemand1 = (x : Lent) (r : HandedBack) (l out : MutBor (List ℕ)) → Runs x r l out → EndsRightly (input x) (outcome r) (report x.used r) out.now l.now
 
 abbrev pub RunningDemand2 : Type 0
 RunningDemand2 =
-    (x : Lent) (r : HandedBack) (l out : Bor (List ℕ)) → Runs x r l out → AllBytes x.lent.now → outcome r ≡ done
+    (x : Lent) (r : HandedBack) (l out : MutBor (List ℕ)) → Runs x r l out → AllBytes x.lent.now → outcome r ≡ done
     → Exports (input x) (report x.used r) out.now l.now
 
 abbrev pub RunningDemand2Other : Type 0
 RunningDemand2Other =
-    (x : Lent) (r : HandedBack) (l out : Bor (List ℕ)) → Runs x r l out → EarlyClear (input x) → (q : Report) (bytes k : List ℕ) → Exports (input x) q bytes k
+    (x : Lent) (r : HandedBack) (l out : MutBor (List ℕ)) → Runs x r l out → EarlyClear (input x) → (q : Report) (bytes k : List ℕ) → Exports (input x) q bytes k
     → outcome r ≡ done
 
 -- a call that was lent the data set d, under the settings s, with the ledger l and n entries in use
@@ -77,8 +77,8 @@ pub record Call (s : Settings) (l : List ℕ) (n : ℕ) (d : Source) : Type 0 wh
   pub used_is : given.used ≡ n
   pub bytes : AllBytes d.bytes
   pub result : HandedBack
-  pub ledger : Bor (List ℕ)
-  pub out : Bor (List ℕ)
+  pub ledger : MutBor (List ℕ)
+  pub out : MutBor (List ℕ)
   pub runs : Runs given result ledger out
   pub accepted : outcome result ≡ done
 

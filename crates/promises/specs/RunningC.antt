@@ -11,7 +11,7 @@
 --     CDemand3               the outputs of two batches are equal exactly when their kept contents are, up to one renaming
 use Rattle.std.specs.Prelude.{◌≡◌, ◌↔◌, List, [], ◌∷◌, map, ℕ, zero, suc, length, take, get_or}
 use contract.Lifetimes.{Lfts}
-use Rattle.std.specs.Borrow.{Bor}
+use Rattle.std.specs.Borrow.{MutBor}
 use Rattle.basis.specs.Bytes.{AllBytes}
 use Rattle.layout.specs.Source.{Source, explicitly}
 use Rattle.treatment.specs.Settings.{Settings}
@@ -24,7 +24,7 @@ use Rattle.promises.specs.Demand2.{Exports, EarlyClear}
 use Rattle.promises.specs.Demand3.{content_of}
 use Rattle.promises.specs.Running.{Lent, input}
 
-abbrev pub Calls : Lfts 6 → Lent → Bor (List ℕ) → Bor (List ℕ) → Bor (List ℕ) → Bor (List ℕ) → Type 0
+abbrev pub Calls : Lfts 6 → Lent → MutBor (List ℕ) → MutBor (List ℕ) → MutBor (List ℕ) → MutBor (List ℕ) → Type 0
 Calls κs x n l out m =
     corravisk-deidentify.Learnt κs
     (x.lent, (x.options, (x.shift, (x.root, (x.study, (x.site, (x.ledger, (x.used, (x.out, (n, tt))))))))))
@@ -49,32 +49,32 @@ outcome_in ns = outcome_by (report_in ns).refusal (report_in ns).offset
 
 abbrev pub CDemand1 : Type 0
 CDemand1 =
-    (κs : Lfts 6) (x : Lent) (n l out m : Bor (List ℕ)) → Calls κs x n l out m
+    (κs : Lfts 6) (x : Lent) (n l out m : MutBor (List ℕ)) → Calls κs x n l out m
     → (length m.now ≡ 8) × EndsRightly (input x) (outcome_in m.now) (report_in m.now) out.now l.now
 
 abbrev pub CDemand2 : Type 0
 CDemand2 =
-    (κs : Lfts 6) (x : Lent) (n l out m : Bor (List ℕ)) → Calls κs x n l out m → AllBytes x.lent.now → (report_in m.now).refusal ≡ 0
+    (κs : Lfts 6) (x : Lent) (n l out m : MutBor (List ℕ)) → Calls κs x n l out m → AllBytes x.lent.now → (report_in m.now).refusal ≡ 0
     → Exports (input x) (report_in m.now) out.now l.now
 
 abbrev pub CDemand2Other : Type 0
 CDemand2Other =
-    (κs : Lfts 6) (x : Lent) (n l out m : Bor (List ℕ)) → Calls κs x n l out m → EarlyClear (input x) → (q : Report) (bytes k : List ℕ)
+    (κs : Lfts 6) (x : Lent) (n l out m : MutBor (List ℕ)) → Calls κs x n l out m → EarlyClear (input x) → (q : Report) (bytes k : List ℕ)
     → Exports (input x) q bytes k → (report_in m.now).refusal ≡ 0
 
 -- a call that was lent the data set d, under the settings s, with the ledger l and n entries in use
 pub record CCall (s : Settings) (l : List ℕ) (n : ℕ) (d : Source) : Type 0 where
   pub lifetimes : Lfts 6
   pub given : Lent
-  pub numbers : Bor (List ℕ)
+  pub numbers : MutBor (List ℕ)
   pub lent_is : explicitly given.lent.now ≡ d
   pub settings_are : (input given).settings ≡ s
   pub ledger_is : given.ledger.now ≡ l
   pub used_is : given.used ≡ n
   pub bytes : AllBytes d.bytes
-  pub ledger : Bor (List ℕ)
-  pub out : Bor (List ℕ)
-  pub report : Bor (List ℕ)
+  pub ledger : MutBor (List ℕ)
+  pub out : MutBor (List ℕ)
+  pub report : MutBor (List ℕ)
   pub calls : Calls lifetimes given numbers ledger out report
   pub accepted : (report_in report.now).refusal ≡ 0
 

@@ -1,1 +1,2 @@
 // No code: this crate states the customer's demands, and proves them.
+#![tactic(auto)]
