@@ -4,6 +4,7 @@
 // by side is passed over in a loop. It is meant for data sets whose shape is judged already: of one with a fault of shape the contracts say
 // nothing but that the walk ends.
 #![tactic(auto)]
+
 ghost use Rattle.std.specs.Prelude.{◌≡◌, ◌≤◌, length};
 ghost use Rattle.layout.specs.Source.{explicitly};
 ghost use Rattle.table.specs.Rows.{table};

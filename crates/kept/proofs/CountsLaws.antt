@@ -23,7 +23,7 @@ use Rattle.treatment.specs.declared.Fate.TheVariants.{Removed, Kept, Walked, Emp
 use Rattle.kept.specs.Content.{Body, shown, blank, uids, walk, Content, end, keep, Walks, last, each, map_body, map_content, map_walks, uids_in_body, uids_in}
 use Rattle.kept.specs.Kept.{Uid, kept_value, kept_sequence, entry, kept_field, kept_of, kept_items}
 use Rattle.kept.specs.Numbering.{numbered_body, numbered, numbered_walks}
-use Rattle.kept.specs.Counts.{Counts, counts, nothing, plus, one, inside, counts_field, counts_of, counts_items, total, field_met, elements_met, items_met}
+use Rattle.kept.specs.Counts.{Counts, nothing, plus, one, inside, counts_field, counts_of, counts_items, total, field_met, elements_met, items_met}
 
 -- ---- the four together
 

@@ -32,7 +32,7 @@ use Rattle.treatment.specs.declared.Level.{Level}
 use Rattle.treatment.specs.declared.Level.TheVariants.{Top}
 use Rattle.treatment.specs.declared.Fate.{Fate}
 use Rattle.treatment.specs.declared.Fate.TheVariants.{Removed, Kept, Walked, Emptied, Dummied, Renamed, Shifted, Wrong}
-use Rattle.kept.specs.Content.{Body, Content, keep, Walks, each, uids_in_body, uids_in, uids_in_walks}
+use Rattle.kept.specs.Content.{Body, Content, keep, Walks, uids_in_body, uids_in, uids_in_walks}
 use Rattle.kept.specs.Kept.{Uid, or_none, held_uids, kept_value, kept_sequence, entry, kept_field, kept_of, kept_items}
 use Rattle.kept.specs.Numbering.{numbered_body, numbered, numbered_walks}
 use Rattle.kept.specs.Written.{written}

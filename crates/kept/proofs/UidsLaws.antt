@@ -3,13 +3,12 @@
 --     kept-uids        so are the names of kept content
 --     learns-uids      and what a ledger learns of them
 --     sized-uids       their slots have 64 bytes each
-use mathlib.Core.Path.{◌≡◌, refl, sym, ap, ap₂, ◌∙◌}
+use mathlib.Core.Path.{◌≡◌, refl, ap, ap₂, ◌∙◌}
 use mathlib.Core.Logic.{◌⊎◌, inl, inr}
-use mathlib.Core.Bool.{Bool, true, false, ◌&&◌, and-eq-true_iff}
+use mathlib.Core.Bool.{true, ◌&&◌, and-eq-true_iff}
 use mathlib.Core.List.{List, [], ◌∷◌, ◌++◌, map, Memᴰ}
 use mathlib.Core.Option.{Option, none, some}
 use Prim.Native.Nat.{ℕ}
-use Rattle.basis.proofs.PiecesLaws.{Free}
 use Rattle.basis.proofs.ChoiceLaws.{pick-case, every-append}
 use Rattle.basis.specs.Choice.{every}
 use Rattle.layout.specs.Tree.{Field, value, items, Elements, nil, elem, Items, none as no_item, item}

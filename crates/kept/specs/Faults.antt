@@ -3,7 +3,7 @@
 --     Fault                   a refusal's number and its offset
 --     value_fault s φ vr v     the number of the fault of an element with this fate and value; 0 where there is none
 --     first_fault es s level   the first fault of the elements es of a level, with the items that are walked into
-use Rattle.std.specs.Prelude.{Bool, true, false, List, ℕ, zero, suc, eqb}
+use Rattle.std.specs.Prelude.{List, ℕ, zero, suc, eqb}
 use Rattle.std.proofs.Math.Option.{Option, none, some}
 use Rattle.basis.specs.Choice.{pick, is_none}
 use Rattle.refusals.specs.Refusals.{bad_uids, bad_dates}

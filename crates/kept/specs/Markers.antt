@@ -8,7 +8,7 @@ use Rattle.std.specs.Prelude.{List, [], ◌∷◌, ℕ, ltb}
 use Rattle.basis.specs.Choice.{fork}
 use Rattle.basis.specs.Text.{ascii}
 use Rattle.vr.specs.Names.{CS, LO, SH, SQ}
-use Rattle.layout.specs.Tree.{Field, value, items, Elements, nil, elem, Items, none as no_item, item, Data}
+use Rattle.layout.specs.Tree.{Field, value, items, nil, elem, Items, none as no_item, item, Data}
 use Rattle.table.specs.Rules.{patient_identity_removed_tag, deidentification_codes_tag, longitudinal_time_tag}
 use Rattle.options.specs.Options.{code_of, meaning_of, basic_code, basic_meaning, chosen}
 use Rattle.options.specs.Settings.{date_word}

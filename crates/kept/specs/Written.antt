@@ -5,10 +5,9 @@
 --     written_of c s level     the elements that are written of the content c of a level
 --     export s c              the data set that is written: the content of the top level, and what that level gains
 --     written s c             its bytes
-use Rattle.std.specs.Prelude.{List, [], ℕ, eqb}
-use Rattle.std.proofs.Math.Option.{Option, none, some}
+use Rattle.std.specs.Prelude.{List, ℕ, eqb}
 use Rattle.vr.specs.Names.{DA}
-use Rattle.layout.specs.Tree.{Field, value, items, Elements, nil, elem, Items, none as no_item, item, Data}
+use Rattle.layout.specs.Tree.{Field, value, items, nil, elem, Items, none as no_item, item, Data}
 use Rattle.layout.specs.Write.{bytes_of}
 use Rattle.uid.specs.NewUid.{uids_text}
 use Rattle.calendar.specs.Values.{shifted_value}

@@ -7,12 +7,12 @@
 use mathlib.Core.Path.{◌≡◌, refl, sym, ap, ◌∙◌}
 use mathlib.Core.Logic.{◌↔◌, ⊎_elim}
 use Rattle.basis.proofs.ChoiceLaws.{both-true}
-use mathlib.Core.Bool.{Bool, true, false, not, ◌&&◌}
+use mathlib.Core.Bool.{Bool, true, false, not}
 use mathlib.Core.List.{List, [], ◌∷◌}
 use mathlib.Core.Option.{Option, none, some}
 use Prim.Native.Nat.{ℕ, ◌-◌, ◌*◌, ◌≤◌, ◌<◌}
 use native.Mathlib.Omega.{arith}
-use lib.Dec.{eqb, ltb}
+use lib.Dec.{eqb}
 use lib.ListN.{length, take, replicate}
 use lib.Seq.{length-take-le, take_at}
 use borrow.Author.Tests.{ltb-false, eqb-false, le-ltb, lt-ltb}
@@ -28,12 +28,11 @@ use Rattle.uid.specs.Uid.{is_root}
 use Rattle.ledger.specs.Slots.{slot_size, slots_of}
 use Rattle.lists.specs.Lists.{list_ok}
 use Rattle.options.specs.Settings.{settings_fault}
-use Rattle.treatment.specs.declared.Level.{Level}
 use Rattle.treatment.specs.declared.Level.TheVariants.{Top}
 use Rattle.kept.specs.Faults.{Fault, first_fault}
 use Rattle.outcome.specs.Input.{Input, read_as, tree_of, tree_in, slots_after, bytes_for}
 use Rattle.outcome.specs.Conditions.{Condition, at_start, condition1, condition2, condition3, condition4, condition5, shape_condition, value_condition, condition13, condition14, fault_is, value_is, conditions}
-use Rattle.outcome.specs.Outcome.{Outcome, refused, done, first_of, outcome_of, output_of, ledger_of}
+use Rattle.outcome.specs.Outcome.{refused, done, first_of, outcome_of, output_of, ledger_of}
 
 -- ---- first_of
 

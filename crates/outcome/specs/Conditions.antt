@@ -15,7 +15,6 @@ use Rattle.uid.specs.Uid.{is_root}
 use Rattle.ledger.specs.Slots.{slots_of}
 use Rattle.lists.specs.Lists.{list_ok}
 use Rattle.options.specs.Settings.{settings_fault}
-use Rattle.treatment.specs.declared.Level.{Level}
 use Rattle.treatment.specs.declared.Level.TheVariants.{Top}
 use Rattle.kept.specs.Faults.{Fault, first_fault}
 use Rattle.outcome.specs.Input.{Input, read_as, tree_of, slots_after, bytes_for}

@@ -15,7 +15,6 @@ use Rattle.layout.specs.Read.{Result, good, fault, read}
 use Rattle.ledger.specs.FirstMet.{learns, same_uid}
 use Rattle.ledger.specs.Slots.{slot_of, slots_in}
 use Rattle.treatment.specs.Settings.{Settings}
-use Rattle.treatment.specs.declared.Level.{Level}
 use Rattle.treatment.specs.declared.Level.TheVariants.{Top}
 use Rattle.kept.specs.Content.{Content, map_content, uids_in}
 use Rattle.kept.specs.Kept.{Uid, kept_of}

@@ -7,10 +7,9 @@
 --     output_of i          every byte of the output afterwards
 --     ledger_of i          every byte of the ledger afterwards
 use Rattle.std.specs.Prelude.{List, [], ◌∷◌, ◌++◌, ℕ, ◌-◌, ◌*◌, ltb, length, take, replicate}
-use Rattle.std.proofs.Math.Option.{Option, none, some}
+use Rattle.std.proofs.Math.Option.{none, some}
 use Rattle.basis.specs.Choice.{pick}
 use Rattle.ledger.specs.Slots.{slot_size, slots_of, flat}
-use Rattle.treatment.specs.declared.Level.{Level}
 use Rattle.treatment.specs.declared.Level.TheVariants.{Top}
 use Rattle.kept.specs.Counts.{Counts, nothing, counts_of}
 use Rattle.outcome.specs.Input.{Input, tree_of, slots_after, bytes_for}

@@ -4,7 +4,7 @@
 --     samples             one line for each sample, in document 01's order (room 148 is ours)
 --     further, untouched  cases of our own, for what those do not reach
 --     tried c, told c     what the definitions say of a sample, and what the sample says
-use Rattle.std.specs.Prelude.{List, [], ◌∷◌, ◌++◌, map, ℕ, ◌-◌, ℤ, pos, negsuc, length, take, drop, replicate}
+use Rattle.std.specs.Prelude.{List, [], ◌∷◌, ◌++◌, ℕ, ◌-◌, ℤ, pos, negsuc, length, take, drop, replicate}
 use Rattle.basis.specs.Text.{ascii, hex}
 use Rattle.vr.specs.Names.{DA, LO, SQ, TM, UI}
 use Rattle.layout.specs.Source.{explicitly}

@@ -1,1 +1,3 @@
+#![tactic(auto)]
+
 // No code: this crate defines the outcome of a run, for all inputs whatever.

@@ -1,5 +1,6 @@
 // Headers and marks as the station writes them, at a place of a lent buffer: clipped at its end, while the place counts on.
 #![tactic(auto)]
+
 ghost use Rattle.std.specs.Prelude.{◌≡◌, ◌+◌, ◌<◌, ◌^◌, length};
 ghost use Rattle.buffer.specs.Buffer.{laid};
 ghost use Rattle.layout.specs.Write.{mark, short_header, long_header, header};

@@ -21,8 +21,7 @@ use Rattle.basis.specs.Choice.{pick, fork, among}
 use Rattle.basis.specs.Text.{ascii}
 use Rattle.basis.proofs.ChoiceLaws.{pick-case, among-less}
 use Rattle.vr.specs.Names.{CS, SQ}
-use Rattle.layout.specs.Tree.{Field, items, Elements, nil, elem, Data, bare}
-use Rattle.layout.specs.Made.{Made}
+use Rattle.layout.specs.Tree.{Field, items, Elements, nil, elem, Data}
 use Rattle.table.specs.Rules.{reserved, patient_identity_removed_tag, deidentification_codes_tag, longitudinal_time_tag}
 use Rattle.ledger.specs.FirstMet.{learns}
 use Rattle.options.specs.Settings.{date_word}

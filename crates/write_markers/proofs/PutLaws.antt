@@ -20,7 +20,6 @@ use lib.Dec.{leb, ltb}
 use borrow.Author.Tests.{leb-true, ltb-true}
 use lib.ListN.{length, drop, length-append}
 use Rattle.basis.specs.Text.{ascii}
-use Rattle.basis.specs.Bytes.{part}
 use Rattle.basis.proofs.ChoiceLaws.{both-true}
 use Rattle.buffer.specs.Buffer.{laid}
 use Rattle.buffer.proofs.Laws.{laid-none, laid-more, laid-front, length-laid}

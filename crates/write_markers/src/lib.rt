@@ -1,6 +1,7 @@
 // The three elements that the top level gains, written where a walk over that level comes past their tags. Each text is written
 // first, eight bytes on, and its header then in front of it, so no length is worked out beforehand.
 #![tactic(auto)]
+
 ghost use Rattle.std.specs.Prelude.{◌≡◌, [], ◌+◌, ◌-◌, ◌≤◌, ◌<◌, ◌^◌, length};
 ghost use Rattle.basis.specs.Text.{ascii};
 ghost use Rattle.buffer.specs.Buffer.{laid};

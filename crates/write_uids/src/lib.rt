@@ -1,6 +1,7 @@
 // A UI element of the output with its UIDs renamed, written whole at a place of a lent buffer, each UID found in the lent ledger or added
 // to it. What does not fit is left out, while the place counts on past the buffer's end.
 #![tactic(auto)]
+
 ghost use Rattle.std.specs.Prelude.{◌+◌, ◌-◌, ◌*◌, ◌≤◌, ◌<◌, ◌^◌, length};
 ghost use Rattle.uid.specs.Uid.{longest_root};
 ghost use Rattle.ledger.specs.Slots.{slots_of};

@@ -12,8 +12,7 @@ use native.Mathlib.Omega.{arith}
 use borrow.Author.Tests.{eq-eqb, ne_eqb}
 use lib.Dec.{eqb}
 use lib.IntN.{ℤ}
-use lib.ListN.{length, take, length-append}
-use lib.Seq.{take-length}
+use lib.ListN.{length, length-append}
 use Rattle.basis.specs.Bytes.{part}
 use Rattle.basis.proofs.BytesLaws.{length-part, part-all}
 use Rattle.buffer.specs.Buffer.{laid}

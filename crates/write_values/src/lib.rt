@@ -1,6 +1,7 @@
 // One element of the output, written whole at a place of a lent buffer: header and value. What does not fit is left out, while the
 // place counts on past the buffer's end.
 #![tactic(auto)]
+
 ghost use Rattle.std.specs.Prelude.{◌≡◌, ◌+◌, ◌-◌, ◌≤◌, ◌<◌, ◌^◌, eqb, length};
 ghost use Rattle.basis.specs.Bytes.{part};
 ghost use Rattle.buffer.specs.Buffer.{laid};

@@ -1,13 +1,7 @@
 -- The cycle of `judge_values::elements`, `judge_values::items`, `judge_values::sequence` meets its contracts. Assumes nothing.
 use Rattle.layout.specs.Source.{explicitly}
-use Rattle.layout.specs.Walks.{Inside, Within}
-use Rattle.layout.specs.declared.Head.TheVariants.{Plain, Seq}
-use Rattle.layout.specs.declared.Spot.TheVariants.{Item}
-use Rattle.judge_values.proofs.JudgeLaws.{Going, GoingItems, start, start-items, stop-bad, stop-end, stop-plain, go-plain, stop-seq, go-seq, stop-wrong, stop-over, stop-item, go-item, goes-in, passes}
+use Rattle.judge_values.proofs.JudgeLaws.{Going, GoingItems}
 use Prim.Native.Nat.{◌+◌, ◌-◌, ◌*◌}
-use borrow.Author.Rules.{rules}
-use native.Mathlib.Omega.{arith}
-use Prim.Native.Nat.{ℕ, ◌<◌}
 use Rattle.judge_values.proofs.+elements_items_sequence.Given as goal
 
 abbrev pub decreases-elements : goal.decreases-elements

@@ -1,6 +1,5 @@
 -- `judge_values::element_fault` meets its contract. Assumes nothing.
 use Rattle.judge_values.proofs.ValueLaws.{by-element}
-use borrow.Author.Rules.{rules}
 use Rattle.judge_values.proofs.element_fault.Goals as goal
 
 pub returns : goal.returns

@@ -6,7 +6,6 @@ use mir.Syntax.{w32}
 use borrow.Author.Rules.{sfits_of}
 use Rattle.treatment.specs.declared.Fate.TheVariants.{Removed, Kept, Walked, Emptied, Dummied, Wrong}
 use Rattle.judge_values.proofs.ValueLaws.{by-fate, by-uids, by-dates}
-use borrow.Author.Rules.{rules}
 use Rattle.judge_values.proofs.value_fault.Goals as goal
 
 pub returns-then-uids_fault : goal.returns-then-uids_fault

@@ -1,7 +1,6 @@
 -- `write_headers::put_header` meets its contract. Assumes nothing.
-use mathlib.Core.Path.{◌≡◌, sym, ◌∙◌}
+use mathlib.Core.Path.{sym, ◌∙◌}
 use Rattle.layout.proofs.MarkLaws.{header-unknown, header-short, header-long, header-sequence}
-use borrow.Author.Rules.{rules}
 use Rattle.write_headers.proofs.put_header.Goals as goal
 
 pub returns-in-Unknown : goal.returns-in-Unknown

@@ -1,6 +1,5 @@
 -- `write_headers::put_mark` meets its contract. Assumes nothing.
 use Rattle.layout.specs.Write.{mark}
-use borrow.Author.Rules.{rules}
 use native.Mathlib.Omega.{arith}
 use Rattle.write_headers.proofs.put_mark.Goals as goal
 

@@ -5,7 +5,6 @@ use Prim.Native.Nat.{ℕ}
 use lib.ListN.{take, drop}
 use Rattle.basis.specs.Bytes.{part}
 use Rattle.buffer.specs.Buffer.{laid}
-use borrow.Author.Rules.{rules}
 use Rattle.write_headers.proofs.put_short.Goals as goal
 
 pub returns-then-pos-out : goal.returns-then-pos-out

@@ -1,6 +1,5 @@
 -- `write_markers::close_text` meets its contract: the length that it writes is that of the text and its pad. Assumes nothing.
 use Rattle.write_markers.proofs.PutLaws.{wrote-close}
-use borrow.Author.Rules.{rules}
 use Rattle.write_markers.proofs.close_text.Goals as goal
 
 pub returns : goal.returns

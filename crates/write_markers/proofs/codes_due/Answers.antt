@@ -4,7 +4,6 @@ use Rattle.layout.specs.Tree.{items}
 use Rattle.vr.specs.Names.{SQ}
 use Rattle.table.specs.Rules.{deidentification_codes_tag}
 use Rattle.write_markers.proofs.PutLaws.{due-below, due-above, due-in}
-use borrow.Author.Rules.{rules}
 use native.Mathlib.Omega.{arith}
 use Rattle.write_markers.proofs.codes_due.Goals as goal
 

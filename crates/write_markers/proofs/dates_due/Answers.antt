@@ -4,7 +4,6 @@ use Rattle.vr.specs.Names.{CS}
 use Rattle.options.specs.Settings.{date_word}
 use Rattle.table.specs.Rules.{longitudinal_time_tag}
 use Rattle.write_markers.proofs.PutLaws.{due-below, due-above, due-in}
-use borrow.Author.Rules.{rules}
 use native.Mathlib.Omega.{arith}
 use Rattle.write_markers.proofs.dates_due.Goals as goal
 

@@ -2,7 +2,6 @@
 use Rattle.write_markers.proofs.PutLaws.{wrote-head}
 use Rattle.write_markers.proofs.PartLaws.{sh-short, text-length}
 use Rattle.kept.proofs.FillersLaws.{spaced-length}
-use borrow.Author.Rules.{rules}
 use native.Mathlib.Omega.{arith}
 use Rattle.write_markers.proofs.open_code.Goals as goal
 

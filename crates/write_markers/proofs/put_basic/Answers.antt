@@ -3,7 +3,6 @@ use Prim.Native.Nat.{◌+◌, ◌-◌}
 use Rattle.options.specs.Options.{basic_code, basic_meaning}
 use Rattle.write_markers.proofs.PutLaws.{wrote-item}
 use Rattle.write_markers.proofs.PartLaws.{head-place, pad-short}
-use borrow.Author.Rules.{rules}
 use native.Mathlib.Omega.{arith}
 use Rattle.write_markers.proofs.put_basic.Goals as goal
 

@@ -1,6 +1,5 @@
 -- `write_markers::put_bit` meets its contract: by the answer of `Opt::at`. Assumes nothing.
 use Rattle.write_markers.proofs.PutLaws.{bit-yes, bit-no}
-use borrow.Author.Rules.{rules}
 use Rattle.write_markers.proofs.put_bit.Goals as goal
 
 pub returns-in-Yes : goal.returns-in-Yes

@@ -3,7 +3,6 @@ use Rattle.layout.specs.Heads.{undefined}
 use Rattle.table.specs.Rules.{deidentification_codes_tag}
 use Rattle.write_markers.proofs.PutLaws.{wrote-codes}
 use Rattle.write_markers.proofs.PartLaws.{sequence-length, basic-length, options-length}
-use borrow.Author.Rules.{rules}
 use native.Mathlib.Omega.{arith}
 use Rattle.write_markers.proofs.put_codes.Goals as goal
 

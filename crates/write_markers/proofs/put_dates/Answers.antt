@@ -4,7 +4,6 @@ use Rattle.options.specs.Settings.{date_word}
 use Rattle.table.specs.Rules.{longitudinal_time_tag}
 use Rattle.write_markers.proofs.PutLaws.{wrote-text}
 use Rattle.write_markers.proofs.PartLaws.{cs-short, word-length}
-use borrow.Author.Rules.{rules}
 use native.Mathlib.Omega.{arith}
 use Rattle.write_markers.proofs.put_dates.Goals as goal
 

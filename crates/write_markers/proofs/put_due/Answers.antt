@@ -1,7 +1,6 @@
 -- `write_markers::put_due` meets its contract: the three, one after the other. Assumes nothing.
 use Rattle.write_markers.proofs.PutLaws.{wrote-due}
 use Rattle.write_markers.proofs.PartLaws.{yes-due-length, codes-due-length}
-use borrow.Author.Rules.{rules}
 use native.Mathlib.Omega.{arith}
 use Rattle.write_markers.proofs.put_due.Goals as goal
 

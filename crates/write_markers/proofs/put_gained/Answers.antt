@@ -3,7 +3,6 @@ use mathlib.Core.Path.{sym, ap, ◌∙◌}
 use mathlib.Core.Bool.{not}
 use Rattle.treatment.specs.Fates.{is_top}
 use Rattle.write_markers.proofs.PutLaws.{gained-inner, gained-past, gained-before, gained-between, gained-top}
-use borrow.Author.Rules.{rules}
 use Rattle.write_markers.proofs.put_gained.Goals as goal
 
 pub returns-then-not-top : goal.returns-then-not-top

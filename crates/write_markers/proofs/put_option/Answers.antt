@@ -4,7 +4,6 @@ use Rattle.options.specs.Options.{code_of, meaning_of}
 use Rattle.options.proofs.OptionsLaws.{code_of-length, meaning_of-length}
 use Rattle.write_markers.proofs.PutLaws.{wrote-item}
 use Rattle.write_markers.proofs.PartLaws.{head-place, pad-short}
-use borrow.Author.Rules.{rules}
 use native.Mathlib.Omega.{arith}
 use Rattle.write_markers.proofs.put_option.Goals as goal
 

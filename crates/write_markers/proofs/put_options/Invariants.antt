@@ -1,7 +1,6 @@
 -- `write_markers::put_options` meets its contract: the invariant says what is written of the items, and what is left of them. Assumes nothing.
 use Prim.Native.Nat.{◌-◌}
-use Rattle.write_markers.proofs.PutLaws.{Going, going-start, going-on, going-room, going-size, going-end}
-use native.Mathlib.Omega.{arith}
+use Rattle.write_markers.proofs.PutLaws.{Going}
 use Rattle.write_markers.proofs.put_options.Given as goal
 
 abbrev pub invariant-loop-bit : goal.invariant-loop-bit

@@ -1,6 +1,5 @@
 -- `write_markers::put_pad` meets its contract: the pad by the parity of the length. Assumes nothing.
 use Rattle.write_markers.proofs.PutLaws.{pad-left, pad-put}
-use borrow.Author.Rules.{rules}
 use Rattle.write_markers.proofs.put_pad.Goals as goal
 
 pub returns-then-n-eq0 : goal.returns-then-n-eq0

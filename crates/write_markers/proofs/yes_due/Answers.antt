@@ -4,7 +4,6 @@ use Rattle.kept.specs.Markers.{text}
 use Rattle.vr.specs.Names.{CS}
 use Rattle.table.specs.Rules.{patient_identity_removed_tag}
 use Rattle.write_markers.proofs.PutLaws.{due-below, due-above, due-in}
-use borrow.Author.Rules.{rules}
 use native.Mathlib.Omega.{arith}
 use Rattle.write_markers.proofs.yes_due.Goals as goal
 

@@ -1,6 +1,5 @@
 -- `write_uids::finish` meets its contract: the text's length is even; it is odd. Assumes nothing.
 use Rattle.write_uids.proofs.Whole.{finish-even, finish-odd}
-use borrow.Author.Rules.{rules}
 use Rattle.write_uids.proofs.finish.Goals as goal
 
 pub returns-then-n-eq0 : goal.returns-then-n-eq0

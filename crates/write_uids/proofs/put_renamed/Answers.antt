@@ -1,7 +1,6 @@
 -- `write_uids::put_renamed` meets its contract: no byte in the value; no slot left; the whole element. Assumes nothing.
 use Rattle.uid.proofs.PadLaws.{trimmed-part}
 use Rattle.write_uids.proofs.Whole.{empty-value, text-place, stopped, finished}
-use borrow.Author.Rules.{rules}
 use native.Mathlib.Omega.{arith}
 use Rattle.write_uids.proofs.put_renamed.Goals as goal
 

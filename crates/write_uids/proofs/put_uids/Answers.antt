@@ -1,10 +1,5 @@
 -- `write_uids::put_uids` meets its contract. Each way of the loop is a law of `proofs/Turns.antt`. Assumes nothing.
-use mathlib.Core.Path.{ap, ◌∙◌}
-use Prim.Native.Nat.{◌-◌}
-use lib.ListN.{length}
-use Rattle.buffer.proofs.Laws.{length-laid}
-use Rattle.write_uids.proofs.Turns.{Going, start, piece-place, stop-long, stop-full, uid-bound, same-ledger, done, go}
-use borrow.Author.Rules.{rules}
+use Rattle.write_uids.proofs.Turns.{start, piece-place, stop-long, stop-full, uid-bound, done, go}
 use native.Mathlib.Omega.{arith}
 use Rattle.write_uids.proofs.put_uids.Goals as goal
 

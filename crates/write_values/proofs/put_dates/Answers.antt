@@ -2,7 +2,6 @@
 use Prim.Native.Nat.{◌-◌}
 use mir.Facts.{to_z-of_z}
 use Rattle.write_values.proofs.ElementLaws.{length-header, put-shift}
-use borrow.Author.Rules.{rules}
 use native.Mathlib.Omega.{arith}
 use Rattle.write_values.proofs.put_dates.Goals as goal
 

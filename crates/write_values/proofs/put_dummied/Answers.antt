@@ -4,7 +4,6 @@ use lib.ListN.{length}
 use Rattle.layout.specs.Heads.{undefined}
 use Rattle.write_values.proofs.ElementLaws.{length-header}
 use Rattle.write_values.proofs.FillerLaws.{length-asked, as-field, dummied_listed, dummied-unlisted, dummied-unserved, dummied_sequence}
-use borrow.Author.Rules.{rules}
 use native.Mathlib.Omega.{arith}
 use Rattle.write_values.proofs.put_dummied.Goals as goal
 

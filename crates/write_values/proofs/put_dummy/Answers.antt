@@ -4,7 +4,6 @@ use lib.ListN.{length}
 use Rattle.layout.specs.Tree.{value}
 use Rattle.kept.specs.Fillers.{spaced}
 use Rattle.write_values.proofs.FillerLaws.{length-dummy, dummy-fits, dummy-front, as-field}
-use borrow.Author.Rules.{rules}
 use native.Mathlib.Omega.{arith}
 use Rattle.write_values.proofs.put_dummy.Goals as goal
 

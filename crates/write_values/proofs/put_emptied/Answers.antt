@@ -2,7 +2,6 @@
 use mathlib.Core.Path.{sym, ap, ◌∙◌}
 use lib.ListN.{length}
 use Rattle.write_values.proofs.FillerLaws.{length-asked, as-field, emptied_listed, emptied-bare}
-use borrow.Author.Rules.{rules}
 use native.Mathlib.Omega.{arith}
 use Rattle.write_values.proofs.put_emptied.Goals as goal
 

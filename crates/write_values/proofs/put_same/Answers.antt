@@ -3,7 +3,6 @@ use mathlib.Core.Path.{sym}
 use Prim.Native.Nat.{◌-◌}
 use Rattle.basis.proofs.BytesLaws.{length-part}
 use Rattle.write_values.proofs.ElementLaws.{length-header, put-value}
-use borrow.Author.Rules.{rules}
 use native.Mathlib.Omega.{arith}
 use Rattle.write_values.proofs.put_same.Goals as goal
 

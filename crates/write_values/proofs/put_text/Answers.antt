@@ -2,7 +2,6 @@
 use Prim.Native.Nat.{◌+◌}
 use lib.ListN.{length}
 use Rattle.write_values.proofs.ElementLaws.{length-header, put-even, put-odd}
-use borrow.Author.Rules.{rules}
 use native.Mathlib.Omega.{arith}
 use Rattle.write_values.proofs.put_text.Goals as goal
 
