@@ -3,6 +3,7 @@
 // The walk goes as the shape walk does: elements contain sequences, sequences contain items, items contain elements, and what stands side
 // by side is passed over in a loop. It is meant for data sets whose shape is judged already: of one with a fault of shape the contracts say
 // nothing but that the walk ends.
+#![tactic(auto)]
 ghost use Rattle.std.specs.Prelude.{◌≡◌, ◌≤◌, length};
 ghost use Rattle.layout.specs.Source.{explicitly};
 ghost use Rattle.table.specs.Rows.{table};

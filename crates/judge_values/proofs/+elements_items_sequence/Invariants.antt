@@ -1,0 +1,32 @@
+-- The cycle of `judge_values::elements`, `judge_values::items`, `judge_values::sequence` meets its contracts. Assumes nothing.
+use Rattle.layout.specs.Source.{explicitly}
+use Rattle.layout.specs.Walks.{Inside, Within}
+use Rattle.layout.specs.declared.Head.TheVariants.{Plain, Seq}
+use Rattle.layout.specs.declared.Spot.TheVariants.{Item}
+use Rattle.judge_values.proofs.JudgeLaws.{Going, GoingItems, start, start-items, stop-bad, stop-end, stop-plain, go-plain, stop-seq, go-seq, stop-wrong, stop-over, stop-item, go-item, goes-in, passes}
+use Prim.Native.Nat.{◌+◌, ◌-◌, ◌*◌}
+use borrow.Author.Rules.{rules}
+use native.Mathlib.Omega.{arith}
+use Prim.Native.Nat.{ℕ, ◌<◌}
+use Rattle.judge_values.proofs.+elements_items_sequence.Given as goal
+
+abbrev pub decreases-elements : goal.decreases-elements
+decreases-elements l = 3 * (l.c.end - l.c.from)
+
+abbrev pub decreases-items : goal.decreases-items
+decreases-items l = 3 * (l.c.end - l.c.from) + 1
+
+abbrev pub decreases-sequence : goal.decreases-sequence
+decreases-sequence l = 3 * (l.c.end - l.c.from) + 2
+
+abbrev pub invariant-elements-loop-number : goal.invariant-elements-loop-number
+invariant-elements-loop-number l = Going l.n (explicitly l.s) l.c l.level l.at l.low
+
+abbrev pub decreases-elements-loop-number : goal.decreases-elements-loop-number
+decreases-elements-loop-number l = l.c.end - l.at
+
+abbrev pub invariant-items-loop-number : goal.invariant-items-loop-number
+invariant-items-loop-number l = GoingItems l.n (explicitly l.s) l.c l.level l.at
+
+abbrev pub decreases-items-loop-number : goal.decreases-items-loop-number
+decreases-items-loop-number l = l.c.end - l.at
