@@ -1,5 +1,5 @@
 // The C interface (include/corravisk.h): each function is a thin layer over the crate that it is named for. Nothing is asked of the
-// caller but that pointers and lengths are true and that what may be written overlaps nothing else.
+// caller but that pointers and lengths are true and that what may be written overlaps nothing else. The crate abi_c exports them to C.
 ghost use Rattle.std.specs.Prelude.{◌≡◌, length};
 ghost use Rattle.layout.specs.Source.{explicitly};
 ghost use Rattle.view.specs.View.{view_of};
@@ -31,8 +31,7 @@ fn numbers_of(outcome: HandedBack, used: u64) -> [u64; 8]
 }
 
 // refusal number (0: done), offset, length, count in use, kept, replaced, renamed, removed
-#[unsafe(no_mangle)]
-pub extern "C" fn corravisk_deidentify<'a>(
+pub fn corravisk_deidentify<'a>(
     lent: &[u8],
     options: u64,
     shift: i64,
@@ -63,8 +62,7 @@ pub extern "C" fn corravisk_deidentify<'a>(
 }
 
 // refusal number (0: none), offset, 1 if found else 0, start and length of the part (0, 0 if not found)
-#[unsafe(no_mangle)]
-pub extern "C" fn corravisk_view(lent: &[u8], tag: u64, answer: &mut [u64; 5])
+pub fn corravisk_view(lent: &[u8], tag: u64, answer: &mut [u64; 5])
     ensures { answer.new ≡ view_numbers (view_of (explicitly lent.now) tag) }
 {
     let a = view::answer_to(lent, tag);
@@ -108,8 +106,7 @@ fn level_of(top: u64) -> Level
 }
 
 // what happens to an element of this tag and VR: 0 removed, 1 kept, 2 walked into, 3 emptied, 4 dummied, 5 renamed, 6 shifted, 7 refused
-#[unsafe(no_mangle)]
-pub extern "C" fn corravisk_action(options: u64, top: u64, tag: u64, vr: u64, answer: &mut [u64; 1])
+pub fn corravisk_action(options: u64, top: u64, tag: u64, vr: u64, answer: &mut [u64; 1])
     ensures { answer.new ≡ action_numbers options top tag vr }
 {
     let rows = table::rows();

@@ -1,6 +1,6 @@
 -- Laws of `specs/Parts.antt`. No contract cites this file. Assumes nothing.
 --     is-part     what the code's `&s[a..e]` is
-use mathlib.Core.Path.{◌≡◌, refl}
+use mathlib.Core.Path.{refl}
 use mathlib.Core.List.{List}
 use Prim.Native.Nat.{ℕ, ◌+◌, ◌-◌}
 use native.Mathlib.Nat.{add_comm}

@@ -1,5 +1,6 @@
 // The words that the definitions of the crates above are made of (specs/), and the search for the end of a piece of a value.
 #![tactic(auto)]
+
 ghost use Rattle.std.specs.Prelude.{◌≡◌, ◌≤◌, length};
 ghost use Rattle.basis.specs.Pieces.{piece_end};
 

@@ -1,5 +1,6 @@
 // A date by value, moved by a signed number of days, and the values of DA and DT elements, whose dates are moved so.
 #![tactic(auto)]
+
 ghost use Rattle.std.specs.Prelude.{◌≡◌, ◌+◌, ◌-◌, ◌≤◌, ◌<◌, ◌^◌, length};
 ghost use Rattle.basis.specs.Bytes.{part};
 ghost use Rattle.basis.specs.Choice.{then, is_none};

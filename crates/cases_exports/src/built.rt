@@ -1,20 +1,21 @@
 // The samples that are put together: items one in the other, and a value of many UIDs.
 use crate::report;
+use std::io;
 
 const SIZE: usize = 2048;
 
 // Runs what was built, up to a place.
-fn upto(name: &[u8], lent: [u8; SIZE], to: usize) {
+fn upto(rt: &impl Print, name: &[u8], lent: [u8; SIZE], to: usize) -> io::Result<()> {
     if SIZE < to {
-        return;
+        return Ok(());
     }
-    report::run(name, &lent[0..to], 0, 0, b"1.9", b"", report::ROOM);
+    report::run(rt, name, &lent[0..to], 0, 0, b"1.9", b"", report::ROOM)
 }
 
 // `n` sequences (0008,1199), which have no row and are walked into, one in the other, each with one item.
-pub fn deep(name: &[u8], n: usize) {
+pub fn deep(rt: &impl Print, name: &[u8], n: usize) -> io::Result<()> {
     if 9 < n {
-        return;
+        return Ok(());
     }
     let opening = b"\x08\0\x99\x11SQ\0\0\xFF\xFF\xFF\xFF\xFE\xFF\0\xE0\xFF\xFF\xFF\xFF";
     let closing = b"\xFE\xFF\x0D\xE0\0\0\0\0\xFE\xFF\xDD\xE0\0\0\0\0";
@@ -25,13 +26,13 @@ pub fn deep(name: &[u8], n: usize) {
         buffer::copy_block(closing, 0, 16, &mut lent, 20 * n + 16 * i);
         i += 1;
     }
-    upto(name, lent, 36 * n);
+    upto(rt, name, lent, 36 * n)
 }
 
 // The Study Instance UID with `n` times the UID 1: its length has two bytes, and a zero byte stands at the end.
-pub fn many(name: &[u8], n: usize) {
+pub fn many(rt: &impl Print, name: &[u8], n: usize) -> io::Result<()> {
     if 1001 < n {
-        return;
+        return Ok(());
     }
     let mut lent = [0u8; SIZE];
     buffer::copy_block(b"\x20\0\x0D\0UI", 0, 6, &mut lent, 0);
@@ -44,5 +45,5 @@ pub fn many(name: &[u8], n: usize) {
         i += 1;
     }
     lent[7 + 2 * n] = 0;
-    upto(name, lent, 8 + 2 * n);
+    upto(rt, name, lent, 8 + 2 * n)
 }

@@ -1,23 +1,24 @@
 // One run, and what it prints.
 use station::HandedBack;
+use std::io;
 
 // The output's room, and the most of its bytes that are printed.
 pub const ROOM: usize = 8192;
 
 const SHOWN: usize = 300;
 
-pub fn text(s: &[u8]) {
-    io::write_all(1, s);
+pub fn text(rt: &impl Print, s: &[u8]) -> io::Result<()> {
+    rt.write_all(s)
 }
 
-fn number(n: usize) {
-    io::print_decimal(1, n as u64);
+fn number(rt: &impl Print, n: usize) -> io::Result<()> {
+    print!(rt; "{n}")
 }
 
 // A number, and what comes after it.
-fn told(n: usize, next: &[u8]) {
-    number(n);
-    text(next);
+fn told(rt: &impl Print, n: usize, next: &[u8]) -> io::Result<()> {
+    number(rt, n)?;
+    text(rt, next)
 }
 
 fn digit(n: u8) -> u8 {
@@ -27,22 +28,22 @@ fn digit(n: u8) -> u8 {
     b'A' - 10 + n % 16
 }
 
-fn hex(b: u8) {
+fn hex(rt: &impl Print, b: u8) -> io::Result<()> {
     let digits = [digit(b / 16), digit(b), b' '];
-    text(&digits);
+    text(rt, &digits)
 }
 
 // Of the bytes that were lent as the room: those up to a place, as far as they are printed, and whether zeros follow.
-fn bytes(out: &[u8; ROOM], room: usize, to: usize) {
+fn bytes(rt: &impl Print, out: &[u8; ROOM], room: usize, to: usize) -> io::Result<()> {
     if ROOM < room {
-        return;
+        return Ok(());
     }
     let mut i = 0;
     let mut zeros = true;
     while i < room {
         if i < to {
             if i < SHOWN {
-                hex(out[i]);
+                hex(rt, out[i])?;
             }
         } else {
             if out[i] != 0 {
@@ -52,34 +53,35 @@ fn bytes(out: &[u8; ROOM], room: usize, to: usize) {
         i += 1;
     }
     if zeros {
-        text(b"and zeros\n");
+        text(rt, b"and zeros\n")
     } else {
-        text(b"and not zeros\n");
+        text(rt, b"and not zeros\n")
     }
 }
 
 // The report; the length written.
-fn outcome(r: HandedBack) -> usize {
+fn outcome(rt: &impl Print, r: HandedBack) -> io::Result<usize> {
     match r {
         HandedBack::Refused(n, o) => {
-            told(n as usize, b" at ");
-            told(o, b"\n");
-            0
+            told(rt, n as usize, b" at ")?;
+            told(rt, o, b"\n")?;
+            Ok(0)
         }
         HandedBack::Done(t) => {
-            told(t.pos, b" bytes, in use ");
-            told(t.used, b", kept ");
-            told(t.kept, b", replaced ");
-            told(t.replaced, b", renamed ");
-            told(t.renamed, b", removed ");
-            told(t.removed, b"\n");
-            t.pos
+            told(rt, t.pos, b" bytes, in use ")?;
+            told(rt, t.used, b", kept ")?;
+            told(rt, t.kept, b", replaced ")?;
+            told(rt, t.replaced, b", renamed ")?;
+            told(rt, t.renamed, b", removed ")?;
+            told(rt, t.removed, b"\n")?;
+            Ok(t.pos)
         }
     }
 }
 
 // A run with an empty ledger of two slots and no site list, on an output that is not zero beforehand.
 pub fn run(
+    rt: &impl Print,
     name: &[u8],
     lent: &[u8],
     options: u64,
@@ -87,9 +89,9 @@ pub fn run(
     root: &[u8],
     study: &[u8],
     room: usize,
-) {
+) -> io::Result<()> {
     if ROOM < room {
-        return;
+        return Ok(());
     }
     let mut ledger = [0u8; 128];
     let mut out = [85u8; ROOM];
@@ -104,8 +106,8 @@ pub fn run(
         0,
         &mut out[0..room],
     );
-    text(name);
-    text(b": ");
-    let to = outcome(r);
-    bytes(&out, room, to);
+    text(rt, name)?;
+    text(rt, b": ")?;
+    let to = outcome(rt, r)?;
+    bytes(rt, &out, room, to)
 }

@@ -2,9 +2,10 @@
 ghost use Rattle.std.specs.Prelude.{◌≤◌, length};
 
 use crate::{date_values, entries, rows, uid_values, uids};
+use std::io;
 
 // What a line is a case of. Of values of UIDs and of lists a line has a name, "=" and the bytes; dates are moved by days.
-#[derive(Drop)]
+#[derive(Clone, Copy)]
 pub enum Kind {
     Uid,
     Root,
@@ -31,41 +32,42 @@ pub fn find(s: &[u8], from: usize, b: u8) -> usize
 }
 
 // A line with a name.
-fn named(list: bool, line: &[u8]) {
+fn named(rt: &impl Print, list: bool, line: &[u8]) -> io::Result<()> {
     let at = find(line, 0, b'=');
     let to = line.len();
     if at == to {
-        return;
+        return Ok(());
     }
     let from = at + 1;
     if list {
-        entries::case(&line[0..at], &line[from..to]);
+        entries::case(rt, &line[0..at], &line[from..to])
     } else {
-        uid_values::case(&line[0..at], &line[from..to]);
+        uid_values::case(rt, &line[0..at], &line[from..to])
     }
 }
 
-fn one(kind: Kind, line: &[u8]) {
+fn one(rt: &impl Print, kind: Kind, line: &[u8]) -> io::Result<()> {
     match kind {
-        Kind::Uid => uids::case(line),
-        Kind::Root => uids::root(line),
-        Kind::Uids => named(false, line),
-        Kind::List => named(true, line),
-        Kind::Da(days) => date_values::case(true, line, days),
-        Kind::Dt(days) => date_values::case(false, line, days),
-        Kind::Row => rows::case(line),
+        Kind::Uid => uids::case(rt, line),
+        Kind::Root => uids::root(rt, line),
+        Kind::Uids => named(rt, false, line),
+        Kind::List => named(rt, true, line),
+        Kind::Da(days) => date_values::case(rt, true, line, days),
+        Kind::Dt(days) => date_values::case(rt, false, line, days),
+        Kind::Row => rows::case(rt, line),
     }
 }
 
 // Runs each line of a text.
-pub fn each(kind: Kind, text: &[u8]) {
+pub fn each(rt: &impl Print, kind: Kind, text: &[u8]) -> io::Result<()> {
     let mut at = 0;
     while at < text.len() {
         let to = find(text, at, b'\n');
-        one(kind, &text[at..to]);
+        one(rt, kind, &text[at..to])?;
         if to == text.len() {
-            return;
+            return Ok(());
         }
         at = to + 1;
     }
+    Ok(())
 }

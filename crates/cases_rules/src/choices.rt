@@ -1,76 +1,79 @@
 // The options of an option number: code values, meanings, and the word for what became of dates.
 use crate::report;
 use options::{Chosen, Opt};
+use std::io;
 
 const ROOM: usize = 64;
 
-fn basic() {
+fn basic(rt: &impl Print) -> io::Result<()> {
     let code = Opt::basic_code();
-    report::text(&code);
-    report::colon();
+    report::text(rt, &code)?;
+    report::colon(rt)?;
     let mut out = [0u8; ROOM];
     let to = Opt::put_basic_meaning(&mut out, 0);
     if to <= ROOM {
-        report::text(&out[0..to]);
+        report::text(rt, &out[0..to])?;
     }
-    report::end();
+    report::end(rt)
 }
 
-fn meaning(o: Opt) {
+fn meaning(rt: &impl Print, o: Opt) -> io::Result<()> {
     let mut out = [0u8; ROOM];
     let to = o.put_meaning(&mut out, 0);
     if to <= ROOM {
-        report::text(&out[0..to]);
+        report::text(rt, &out[0..to])?;
     }
+    Ok(())
 }
 
-fn shown(o: Opt) {
+fn shown(rt: &impl Print, o: Opt) -> io::Result<()> {
     let code = o.code();
-    report::text(&code);
-    report::text(b" ");
-    meaning(o);
-    report::text(b", ");
+    report::text(rt, &code)?;
+    report::text(rt, b" ")?;
+    meaning(rt, o)?;
+    report::text(rt, b", ")
 }
 
-fn one(number: u64, bit: u64) {
+fn one(rt: &impl Print, number: u64, bit: u64) -> io::Result<()> {
     let chosen = Opt::at(number, bit);
     match chosen {
-        Chosen::Yes(o) => shown(o),
-        Chosen::No => {}
+        Chosen::Yes(o) => shown(rt, o),
+        Chosen::No => Ok(()),
     }
 }
 
-fn date_word(number: u64) {
+fn date_word(rt: &impl Print, number: u64) -> io::Result<()> {
     let mut out = [0u8; ROOM];
     let to = options::put_date_word(number, &mut out, 0);
     if to <= ROOM {
-        report::text(&out[0..to]);
+        report::text(rt, &out[0..to])?;
     }
+    Ok(())
 }
 
-fn case(number: u64) {
-    report::text(b"number ");
-    io::print_decimal(1, number);
-    report::colon();
-    one(number, 0);
-    one(number, 1);
-    one(number, 2);
-    one(number, 3);
-    one(number, 4);
-    one(number, 5);
-    date_word(number);
-    report::end();
+fn case(rt: &impl Print, number: u64) -> io::Result<()> {
+    report::text(rt, b"number ")?;
+    print!(rt; "{number}")?;
+    report::colon(rt)?;
+    one(rt, number, 0)?;
+    one(rt, number, 1)?;
+    one(rt, number, 2)?;
+    one(rt, number, 3)?;
+    one(rt, number, 4)?;
+    one(rt, number, 5)?;
+    date_word(rt, number)?;
+    report::end(rt)
 }
 
-pub fn all() {
-    basic();
-    case(0);
-    case(1);
-    case(2);
-    case(4);
-    case(8);
-    case(16);
-    case(32);
-    case(37);
-    case(58);
+pub fn all(rt: &impl Print) -> io::Result<()> {
+    basic(rt)?;
+    case(rt, 0)?;
+    case(rt, 1)?;
+    case(rt, 2)?;
+    case(rt, 4)?;
+    case(rt, 8)?;
+    case(rt, 16)?;
+    case(rt, 32)?;
+    case(rt, 37)?;
+    case(rt, 58)
 }

@@ -3,24 +3,26 @@ ghost use Rattle.std.specs.Prelude.{◌≡◌, ◌≤◌, length};
 
 use crate::cases::Kind;
 use crate::{cases, report};
+use std::io;
 
-pub fn all() {
-    tags();
-    values();
-    two_entries();
-    many(255);
-    many(256);
-    many(257);
+pub fn all(rt: &impl Print) -> io::Result<()> {
+    tags(rt)?;
+    values(rt)?;
+    two_entries(rt)?;
+    many(rt, 255)?;
+    many(rt, 256)?;
+    many(rt, 257)
 }
 
-pub fn case(name: &[u8], list: &[u8]) {
-    report::text(b"list ");
-    report::text(name);
-    report::judged(!lists::list_ok(list), 4);
+pub fn case(rt: &impl Print, name: &[u8], list: &[u8]) -> io::Result<()> {
+    report::text(rt, b"list ")?;
+    report::text(rt, name)?;
+    report::judged(rt, !lists::list_ok(list), 4)
 }
 
-fn tags() {
+fn tags(rt: &impl Print) -> io::Result<()> {
     cases::each(
+        rt,
         Kind::List,
         b"of document 01=\x90\x80\x40\x05SUBJ7\n\
         without entries=\n\
@@ -34,11 +36,12 @@ fn tags() {
         of tag 0 in two groups=\x80\x00\x01A\n\
         of a length with one group too many=\x90\x80\x40\x85\x00SUBJ7\n\
         of a length in ten groups=\x90\x80\x40\x81\x80\x80\x80\x80\x80\x80\x80\x80\x02A\n",
-    );
+    )
 }
 
-fn values() {
+fn values(rt: &impl Print) -> io::Result<()> {
     cases::each(
+        rt,
         Kind::List,
         b"of a value of 0 bytes=\x90\x80\x40\x00\n\
         of a value of 1 byte=\x90\x80\x40\x01A\n\
@@ -56,7 +59,7 @@ fn values() {
         of a value with 5C, a backslash=\x90\x80\x40\x03A\x5CB\n\
         of a value with 5D=\x90\x80\x40\x03A\x5DB\n\
         of a value with a backslash at its end=\x90\x80\x40\x03AB\x5C\n",
-    );
+    )
 }
 
 // The most entries that `many` takes. Each has four bytes.
@@ -83,22 +86,23 @@ fn entries(out: &mut [u8], n: usize)
     }
 }
 
-fn many(n: usize) {
-    report::text(b"list of ");
-    report::number(n);
+fn many(rt: &impl Print, n: usize) -> io::Result<()> {
+    report::text(rt, b"list of ")?;
+    report::number(rt, n)?;
     if MOST < n {
-        return;
+        return Ok(());
     }
     let mut out = [0u8; 4 * MOST];
     entries(&mut out, n);
     let to = 4 * n;
-    report::text(b" entries");
-    report::judged(!lists::list_ok(&out[0..to]), 4);
+    report::text(rt, b" entries")?;
+    report::judged(rt, !lists::list_ok(&out[0..to]), 4)
 }
 
 // The order of tags, and the first bytes of a list of two entries.
-fn two_entries() {
+fn two_entries(rt: &impl Print) -> io::Result<()> {
     cases::each(
+        rt,
         Kind::List,
         b"of rising tags=\x90\x80\x40\x01A\x91\x80\x40\x01B\n\
         of equal tags=\x90\x80\x40\x01A\x90\x80\x40\x01B\n\
@@ -119,5 +123,5 @@ fn two_entries() {
         cut at 13=\x90\x80\x40\x05SUBJ7\x94\x80\x40\x02\n\
         cut at 14=\x90\x80\x40\x05SUBJ7\x94\x80\x40\x02A\n\
         cut at 15=\x90\x80\x40\x05SUBJ7\x94\x80\x40\x02AB\n",
-    );
+    )
 }

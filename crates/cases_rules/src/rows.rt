@@ -4,15 +4,17 @@ ghost use Rattle.table.specs.Rows.{table};
 
 use crate::cases::Kind;
 use crate::{cases, report};
+use std::io;
 use table::Action;
 
-pub fn all() {
+pub fn all(rt: &impl Print) -> io::Result<()> {
     report::text(
+        rt,
         b"tag and name: no option | each option alone, bits 0 to 5 | all but Modified Dates, all but Full Dates | no option, in an item\n",
-    );
-    rows();
-    more_rows();
-    rules();
+    )?;
+    rows(rt)?;
+    more_rows(rt)?;
+    rules(rt)
 }
 
 // Document 01's letter for an action.
@@ -36,40 +38,41 @@ fn in_dates_column(a: Action) -> bool {
     }
 }
 
-fn action(rows: &[u64], options: u64, top: bool, tag: u64)
+fn action(rt: &impl Print, rows: &[u64], options: u64, top: bool, tag: u64) -> io::Result<()>
     requires { rows.now ≡ table }
 {
     let a = table::action_of(rows, options, top, tag);
     let blank_and_letter = [b' ', letter(a)];
-    report::text(&blank_and_letter);
+    report::text(rt, &blank_and_letter)?;
     if in_dates_column(a) {
-        report::text(b"(dates)");
+        report::text(rt, b"(dates)")?;
     }
+    Ok(())
 }
 
-fn alone(rows: &[u64], tag: u64)
+fn alone(rt: &impl Print, rows: &[u64], tag: u64) -> io::Result<()>
     requires { rows.now ≡ table }
 {
-    action(rows, 1, true, tag);
-    action(rows, 2, true, tag);
-    action(rows, 4, true, tag);
-    action(rows, 8, true, tag);
-    action(rows, 16, true, tag);
-    action(rows, 32, true, tag);
+    action(rt, rows, 1, true, tag)?;
+    action(rt, rows, 2, true, tag)?;
+    action(rt, rows, 4, true, tag)?;
+    action(rt, rows, 8, true, tag)?;
+    action(rt, rows, 16, true, tag)?;
+    action(rt, rows, 32, true, tag)
 }
 
 // By no option, by each alone, by all but one date option, and in an item.
-fn actions(rows: &[u64], tag: u64)
+fn actions(rt: &impl Print, rows: &[u64], tag: u64) -> io::Result<()>
     requires { rows.now ≡ table }
 {
-    action(rows, 0, true, tag);
-    report::text(b" |");
-    alone(rows, tag);
-    report::text(b" |");
-    action(rows, 61, true, tag);
-    action(rows, 62, true, tag);
-    report::text(b" |");
-    action(rows, 0, false, tag);
+    action(rt, rows, 0, true, tag)?;
+    report::text(rt, b" |")?;
+    alone(rt, rows, tag)?;
+    report::text(rt, b" |")?;
+    action(rt, rows, 61, true, tag)?;
+    action(rt, rows, 62, true, tag)?;
+    report::text(rt, b" |")?;
+    action(rt, rows, 0, false, tag)
 }
 
 // What a hexadecimal digit stands for.
@@ -92,21 +95,22 @@ fn four(s: &[u8], at: usize) -> u64
 }
 
 // A line is a tag and a name, "(0008,0018) SOP Instance UID".
-pub fn case(line: &[u8]) {
+pub fn case(rt: &impl Print, line: &[u8]) -> io::Result<()> {
     if line.len() < 11 {
-        return;
+        return Ok(());
     }
-    report::text(line);
-    report::text(b":");
+    report::text(rt, line)?;
+    report::text(rt, b":")?;
     let rows = table::rows();
-    actions(&rows, 65536 * four(line, 1) + four(line, 6));
-    report::end();
+    actions(rt, &rows, 65536 * four(line, 1) + four(line, 6))?;
+    report::end(rt)
 }
 
 // By name, as the page has them, and at least one from each sheet of it; also the first and the last row by tag, and the three tags that
 // are printed twice (A16).
-fn rows() {
+fn rows(rt: &impl Print) -> io::Result<()> {
     cases::each(
+        rt,
         Kind::Row,
         b"(0008,002A) Acquisition DateTime\n\
         (0000,1000) Affected SOP Instance UID\n\
@@ -135,11 +139,12 @@ fn rows() {
         (0008,1072) Operator Identification Sequence\n\
         (0010,0030) Patient's Birth Date\n\
         (0010,2203) Patient's Sex Neutered\n",
-    );
+    )
 }
 
-fn more_rows() {
+fn more_rows(rt: &impl Print) -> io::Result<()> {
     cases::each(
+        rt,
         Kind::Row,
         b"(0038,0500) Patient State\n\
         (0040,0241) Performed Station AE Title\n\
@@ -167,12 +172,13 @@ fn more_rows() {
         (300A,00B2) Treatment Machine Name\n\
         (0040,A124) UID\n\
         (0018,9371) X-Ray Detector ID\n",
-    );
+    )
 }
 
 // The repeating lines at the ends of their groups, private groups, element 0000, what is written anew, and tags without a row.
-fn rules() {
+fn rules(rt: &impl Print) -> io::Result<()> {
     cases::each(
+        rt,
         Kind::Row,
         b"(5000,0005) Curve Data, first group\n\
         (50FE,3000) Curve Data, last group\n\
@@ -195,5 +201,5 @@ fn rules() {
         (0008,0060) Modality\n\
         (7FE0,0010) Pixel Data\n\
         (FFFC,FFFD) past the last row\n",
-    );
+    )
 }

@@ -3,23 +3,25 @@ ghost use Rattle.std.specs.Prelude.{◌≡◌, ◌≤◌, length};
 
 use crate::cases::Kind;
 use crate::{cases, report};
+use std::io;
 
-pub fn all() {
-    values();
-    many(999);
-    many(1000);
-    many(1001);
-    numbers();
+pub fn all(rt: &impl Print) -> io::Result<()> {
+    values(rt)?;
+    many(rt, 999)?;
+    many(rt, 1000)?;
+    many(rt, 1001)?;
+    numbers(rt)
 }
 
-pub fn case(name: &[u8], value: &[u8]) {
-    report::text(b"uids ");
-    report::text(name);
-    report::judged(uid::uids_fault(value, 0, value.len()), 11);
+pub fn case(rt: &impl Print, name: &[u8], value: &[u8]) -> io::Result<()> {
+    report::text(rt, b"uids ")?;
+    report::text(rt, name)?;
+    report::judged(rt, uid::uids_fault(value, 0, value.len()), 11)
 }
 
-fn values() {
+fn values(rt: &impl Print) -> io::Result<()> {
     cases::each(
+        rt,
         Kind::Uids,
         b"none=\n\
         one of one character and a zero byte=1\0\n\
@@ -43,7 +45,7 @@ fn values() {
         a backslash and a zero byte at the end=1.23\\\0\n\
         two backslashes between=1.2\\\\1.3\n\
         two backslashes alone=\\\\\n",
-    );
+    )
 }
 
 // The most UIDs that `many` takes.
@@ -62,60 +64,62 @@ fn parted(out: &mut [u8], n: usize)
 }
 
 // `n` UIDs "1": their length is odd, so a zero byte stands last.
-fn many(n: usize) {
-    report::text(b"uids of ");
-    report::number(n);
+fn many(rt: &impl Print, n: usize) -> io::Result<()> {
+    report::text(rt, b"uids of ")?;
+    report::number(rt, n)?;
     if n < 1 {
-        return;
+        return Ok(());
     }
     if MOST < n {
-        return;
+        return Ok(());
     }
     let mut out = [b'1'; 2 * MOST];
     parted(&mut out, n);
     let to = 2 * n;
     buffer::put(&mut out, to - 1, 0);
-    report::judged(uid::uids_fault(&out, 0, to), 11);
+    report::judged(rt, uid::uids_fault(&out, 0, to), 11)
 }
 
 // A new UID: at most 64 characters for a root of at most 59 and a number of at most four digits.
-fn written(root: &[u8], n: usize) {
+fn written(rt: &impl Print, root: &[u8], n: usize) -> io::Result<()> {
     if uid::LONGEST_ROOT < root.len() {
-        return;
+        return Ok(());
     }
     if 9999 < n {
-        return;
+        return Ok(());
     }
     let mut out = [0u8; uid::LONGEST_UID];
     let to = uid::put_uid(root, n, &mut out, 0);
     if to <= uid::LONGEST_UID {
-        report::counted(&out[0..to]);
+        report::counted(rt, &out[0..to])?;
     }
+    Ok(())
 }
 
-fn new(root: &[u8], n: usize) {
-    report::text(b"new uid ");
-    report::number(n);
-    report::colon();
-    written(root, n);
-    report::end();
+fn new(rt: &impl Print, root: &[u8], n: usize) -> io::Result<()> {
+    report::text(rt, b"new uid ")?;
+    report::number(rt, n)?;
+    report::colon(rt)?;
+    written(rt, root, n)?;
+    report::end(rt)
 }
 
-fn short(n: usize) {
-    new(b"1.9", n);
+fn short(rt: &impl Print, n: usize) -> io::Result<()> {
+    new(rt, b"1.9", n)
 }
 
-fn numbers() {
-    short(1);
-    short(9);
-    short(10);
-    short(99);
-    short(100);
-    short(1000);
-    short(1024);
-    new(b"0", 1);
+fn numbers(rt: &impl Print) -> io::Result<()> {
+    short(rt, 1)?;
+    short(rt, 9)?;
+    short(rt, 10)?;
+    short(rt, 99)?;
+    short(rt, 100)?;
+    short(rt, 1000)?;
+    short(rt, 1024)?;
+    new(rt, b"0", 1)?;
     new(
+        rt,
         b"1.2.840.113619.2.55.3.604688119.971.1263887123.450.12345678",
         1024,
-    );
+    )
 }

@@ -1,21 +1,23 @@
 // The UID rule, at its edges.
 use crate::cases::Kind;
 use crate::{cases, report};
+use std::io;
 
-pub fn case(s: &[u8]) {
-    report::text(b"uid ");
-    report::counted(s);
-    report::judged(!uid::is_uid(s, 0, s.len()), 11);
+pub fn case(rt: &impl Print, s: &[u8]) -> io::Result<()> {
+    report::text(rt, b"uid ")?;
+    report::counted(rt, s)?;
+    report::judged(rt, !uid::is_uid(s, 0, s.len()), 11)
 }
 
-pub fn root(s: &[u8]) {
-    report::text(b"root ");
-    report::counted(s);
-    report::judged(!uid::is_root(s), 2);
+pub fn root(rt: &impl Print, s: &[u8]) -> io::Result<()> {
+    report::text(rt, b"root ")?;
+    report::counted(rt, s)?;
+    report::judged(rt, !uid::is_root(s), 2)
 }
 
-pub fn all() {
+pub fn all(rt: &impl Print) -> io::Result<()> {
     cases::each(
+        rt,
         Kind::Uid,
         b"0\n\
         00\n\
@@ -42,8 +44,9 @@ pub fn all() {
         1.2.840.113619.2.55.3.604688119.971.1263887123.450.1234567890.12\n\
         1.2.840.113619.2.55.3.604688119.971.1263887123.450.1234567890.123\n\
         1.2.840.113619.2.55.3.604688119.971.1263887123.450.1234567890.02\n",
-    );
+    )?;
     cases::each(
+        rt,
         Kind::Root,
         b"1\n\
         1.9\n\
@@ -52,5 +55,5 @@ pub fn all() {
         \n\
         1.2.840.113619.2.55.3.604688119.971.1263887123.450.12345678\n\
         1.2.840.113619.2.55.3.604688119.971.1263887123.450.123456789\n",
-    );
+    )
 }

@@ -3,78 +3,77 @@ ghost use Rattle.std.specs.Prelude.{◌≡◌, length};
 
 use crate::pieces;
 use layout::Shape;
+use std::io;
 
-fn number(n: usize) {
-    io::print_decimal(1, n as u64);
+fn number(rt: &impl Print, n: usize) -> io::Result<()> {
+    print!(rt; "{n}")
 }
 
 // The shape of the bytes from `from` up to `to`.
-pub fn shape(out: &[u8], from: usize, to: usize) {
+pub fn shape(rt: &impl Print, out: &[u8], from: usize, to: usize) -> io::Result<()> {
     if to < from {
-        io::write_all(1, b" too long");
-        return;
+        return rt.write_all(b" too long");
     }
     if out.len() < to {
-        io::write_all(1, b" too long");
-        return;
+        return rt.write_all(b" too long");
     }
     let r = layout::shape_of(&out[from..to]);
     match r {
         Shape::Fine(past) => {
-            io::write_all(1, b" fine to ");
-            number(past);
+            rt.write_all(b" fine to ")?;
+            number(rt, past)
         }
         Shape::Fault(n, o) => {
-            io::write_all(1, b" ");
-            number(n as usize);
-            io::write_all(1, b" at ");
-            number(o);
+            rt.write_all(b" ")?;
+            number(rt, n as usize)?;
+            rt.write_all(b" at ")?;
+            number(rt, o)
         }
     }
 }
 
 // Elements that stand from 20 on: by themselves, in an item of stated length, and in one of undefined length.
-pub fn elements(name: &[u8], out: &mut [u8], to: usize)
+pub fn elements(rt: &impl Print, name: &[u8], out: &mut [u8], to: usize) -> io::Result<()>
     ensures { length out.new ≡ length out.old }
 {
-    io::write_all(1, name);
-    io::write_all(1, b": top");
-    shape(out, 20, to);
+    rt.write_all(name)?;
+    rt.write_all(b": top")?;
+    shape(rt, out, 20, to)?;
     if to < 20 {
-        return;
+        return Ok(());
     }
     pieces::sequence(out, 0, 0x0040_0275, to - 12);
     pieces::item(out, 12, to - 20);
-    io::write_all(1, b"; stated");
-    shape(out, 0, to);
+    rt.write_all(b"; stated")?;
+    shape(rt, out, 0, to)?;
     pieces::sequence(out, 0, 0x0040_0275, pieces::UNDEFINED);
     pieces::item(out, 12, pieces::UNDEFINED);
-    io::write_all(1, b"; undefined");
-    shape(out, 0, to);
-    io::write_all(1, b"\n");
+    rt.write_all(b"; undefined")?;
+    shape(rt, out, 0, to)?;
+    rt.write_all(b"\n")
 }
 
 // Items that stand from 12 on: in a sequence of stated length, and in one of undefined length.
-pub fn items(name: &[u8], out: &mut [u8], to: usize)
+pub fn items(rt: &impl Print, name: &[u8], out: &mut [u8], to: usize) -> io::Result<()>
     ensures { length out.new ≡ length out.old }
 {
-    io::write_all(1, name);
+    rt.write_all(name)?;
     if to < 12 {
-        return;
+        return Ok(());
     }
     pieces::sequence(out, 0, 0x0040_0275, to - 12);
-    io::write_all(1, b": stated");
-    shape(out, 0, to);
+    rt.write_all(b": stated")?;
+    shape(rt, out, 0, to)?;
     pieces::sequence(out, 0, 0x0040_0275, pieces::UNDEFINED);
-    io::write_all(1, b"; undefined");
-    shape(out, 0, to);
-    io::write_all(1, b"\n");
+    rt.write_all(b"; undefined")?;
+    shape(rt, out, 0, to)?;
+    rt.write_all(b"\n")
 }
 
 // A whole data set, up to `to`.
-pub fn whole(name: &[u8], out: &[u8], to: usize) {
-    io::write_all(1, name);
-    io::write_all(1, b":");
-    shape(out, 0, to);
-    io::write_all(1, b"\n");
+pub fn whole(rt: &impl Print, name: &[u8], out: &[u8], to: usize) -> io::Result<()> {
+    rt.write_all(name)?;
+    rt.write_all(b":")?;
+    shape(rt, out, 0, to)?;
+    rt.write_all(b"\n")
 }

@@ -2,16 +2,15 @@
 -- were found. The laws of `MadeLaws` rest on it. No contract cites this file. Assumes nothing.
 --     Lies s at end low h        the places of an element's head rise within its container; a fault is one of 6 to 10
 --     LiesItem at end depth h    likewise of an item's
-use mathlib.Core.Path.{◌≡◌, refl, sym, ◌∙◌}
+use mathlib.Core.Path.{◌≡◌, refl}
 use mathlib.Core.Bool.{Bool, true, false, not, ◌&&◌}
 use mathlib.Core.List.{List}
-use Prim.Native.Nat.{ℕ, ◌+◌, ◌-◌, ◌*◌, ◌%◌, ◌≤◌, ◌<◌}
+use Prim.Native.Nat.{ℕ, ◌+◌, ◌-◌, ◌%◌, ◌≤◌, ◌<◌}
 use native.Mathlib.Omega.{arith}
 use lib.Dec.{eqb, ltb, leb}
-use borrow.Author.Tests.{eqb-true, eqb-false, ltb-true, ltb-false, leb-true}
-use Rattle.basis.specs.Choice.{pick}
+use borrow.Author.Tests.{eqb-true, eqb-false, ltb-false, leb-true}
 use Rattle.basis.specs.Bytes.{le2, le4, AllBytes}
-use Rattle.basis.proofs.ChoiceLaws.{pick-case, both-true, both-false}
+use Rattle.basis.proofs.ChoiceLaws.{pick-case, both-true}
 use Rattle.refusals.specs.Refusals.{cut_short, too_deep}
 use Rattle.vr.specs.Vr.{kind_of}
 use Rattle.vr.specs.declared.Kind.{Kind}

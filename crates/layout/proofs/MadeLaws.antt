@@ -6,9 +6,9 @@
 --     made-deeper           what is well-made at a depth is so at every greater one
 --     made-lower            what rises from a tag on rises from every lower one
 --     made-bare             labels play no part in it
-use mathlib.Core.Path.{◌≡◌, refl, sym, ap, ◌∙◌, subst}
-use mathlib.Core.Bool.{Bool, true, false}
-use Prim.Native.Nat.{ℕ, zero, suc, ◌+◌, ◌-◌, ◌%◌, ◌≤◌, ◌<◌}
+use mathlib.Core.Path.{◌≡◌, refl}
+use mathlib.Core.Bool.{Bool, false}
+use Prim.Native.Nat.{ℕ, zero, suc, ◌+◌, ◌-◌, ◌≤◌, ◌<◌}
 use native.Mathlib.Omega.{arith}
 use lib.ListN.{length}
 use Rattle.basis.specs.Bytes.{part, AllBytes}
@@ -17,9 +17,9 @@ use Rattle.refusals.specs.Refusals.{cut_short, too_deep}
 use Rattle.vr.specs.Names.{SQ}
 use Rattle.layout.specs.Source.{Source}
 use Rattle.layout.specs.Tree.{Field, value, items, Elements, nil, elem, Items, none, item, Place, bare, bare_field, bare_items}
-use Rattle.layout.specs.Heads.{element_head, item_head, allowed}
+use Rattle.layout.specs.Heads.{element_head, item_head}
 use Rattle.layout.specs.Read.{Result, good, fault, with, after, placed, elements_at, items_at, read}
-use Rattle.layout.specs.Made.{lengths_below, Made, MadeField, MadeItems}
+use Rattle.layout.specs.Made.{Made, MadeField, MadeItems}
 use Rattle.layout.specs.declared.Head.{Head}
 use Rattle.layout.specs.declared.Head.TheVariants.{Bad, End, Plain, Seq}
 use Rattle.layout.specs.declared.Spot.{Spot}

@@ -5,29 +5,26 @@
 --     le2-at, le4-at      the number at a place
 --     header-..           the header, by the kind of the VR
 --     short-back, long-back, empty-back, sequence-back, item_end-back, item-back, sequence_end-back    the head of what was written
-use mathlib.Core.Path.{◌≡◌, refl, sym, ap, ap₂, ◌∙◌}
-use mathlib.Core.Bool.{Bool, true, false, not, ◌&&◌, and-false}
-use mathlib.Core.List.{List, [], ◌∷◌, ◌++◌, append_assoc}
-use Prim.Native.Nat.{ℕ, zero, suc, ◌+◌, ◌-◌, ◌*◌, ◌/◌, ◌%◌, ◌≤◌, ◌<◌}
+use mathlib.Core.Path.{◌≡◌, sym, ap, ap₂, ◌∙◌}
+use mathlib.Core.Bool.{Bool, true, false, and-false}
+use mathlib.Core.List.{List, ◌∷◌, ◌++◌}
+use Prim.Native.Nat.{ℕ, ◌+◌, ◌-◌, ◌*◌, ◌/◌, ◌%◌, ◌≤◌, ◌<◌}
 use native.Mathlib.Omega.{arith}
 use lib.Dec.{eqb, ltb, leb}
-use lib.ListN.{length, take, drop, get_or, length-append, length-drop}
+use lib.ListN.{length, take, drop, get_or, length-append}
 use lib.Seq.{get_or-drop, drop-drop, drop-append_seam, take-append_seam}
-use borrow.Author.Tests.{eq-eqb, ne_eqb, lt-ltb, le-ltb, le-leb, leb-true, ltb-true}
+use borrow.Author.Tests.{eq-eqb, ne_eqb, le-ltb, le-leb, ltb-true}
 use Rattle.basis.specs.Choice.{pick}
 use Rattle.basis.specs.Bytes.{part, le2, le4, low2, low4}
 use Rattle.basis.proofs.ChoiceLaws.{both-true}
-use Rattle.vr.specs.Names.{SQ}
 use Rattle.vr.specs.Vr.{kind_of}
 use Rattle.vr.specs.declared.Kind.TheVariants.{Unknown, Short, Long, Sequence}
 use Rattle.vr.proofs.VrLaws.{kind_of-all_vrs, all_vrs-two}
 use Rattle.layout.specs.Source.{explicitly}
 use Rattle.layout.specs.Heads.{tag_at, item_tag, item_end, sequence_end, undefined, allowed, length_fault, value_head, sequence_head, long_head, vr_head, tag_head, element_head, item_body, item_at, item_head}
 use Rattle.layout.specs.Write.{tag_bytes, mark, short_header, long_header, header}
-use Rattle.layout.specs.Made.{lengths_below}
-use Rattle.layout.specs.declared.Head.{Head}
-use Rattle.layout.specs.declared.Head.TheVariants.{Bad, End, Plain, Seq}
-use Rattle.layout.specs.declared.Spot.TheVariants.{Wrong, Over, Item}
+use Rattle.layout.specs.declared.Head.TheVariants.{End, Plain, Seq}
+use Rattle.layout.specs.declared.Spot.TheVariants.{Over, Item}
 use Rattle.layout.proofs.HeadLaws.{apart, vr_head-short, vr_head-long, vr_head-sequence}
 
 -- ---- At

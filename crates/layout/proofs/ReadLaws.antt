@@ -5,13 +5,13 @@
 --     at-HEAD                 elements_at, items_at where HEAD stands
 --     was-HEAD                the tree that was read, where HEAD stood at its beginning
 use mathlib.Core.Path.{◌≡◌, refl, sym, ap, ◌∙◌}
-use mathlib.Core.Bool.{Bool, true, false}
-use Prim.Native.Nat.{ℕ, zero, suc, ◌+◌, ◌-◌}
+use mathlib.Core.Bool.{Bool}
+use Prim.Native.Nat.{ℕ, suc, ◌+◌, ◌-◌}
 use native.Mathlib.Omega.{arith}
 use Rattle.basis.specs.Bytes.{part}
 use Rattle.vr.specs.Names.{SQ}
 use Rattle.layout.specs.Source.{Source}
-use Rattle.layout.specs.Tree.{Field, value, items, Elements, nil, elem, Items, none, item, Place}
+use Rattle.layout.specs.Tree.{value, items, Elements, nil, elem, Items, none, item, Place}
 use Rattle.layout.specs.Heads.{element_head, item_head}
 use Rattle.layout.specs.Read.{Result, good, fault, with, after, placed, elements_at, items_at}
 use Rattle.layout.specs.declared.Head.TheVariants.{Bad, End, Plain, Seq}

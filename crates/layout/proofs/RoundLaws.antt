@@ -5,10 +5,10 @@
 --     bytes_of-inj            two well-made data sets with the same bytes are one
 use mathlib.Core.Path.{◌≡◌, refl, sym, ap, ap₂, ◌∙◌}
 use mathlib.Core.Bool.{Bool, true, false}
-use mathlib.Core.List.{List, [], ◌∷◌, ◌++◌}
+use mathlib.Core.List.{List, [], ◌++◌}
 use Prim.Native.Nat.{ℕ, zero, suc, ◌+◌, ◌-◌, ◌%◌, ◌≤◌, ◌<◌}
 use native.Mathlib.Omega.{arith}
-use lib.ListN.{length, drop, length-append}
+use lib.ListN.{length, length-append}
 use borrow.Author.Tests.{eq-eqb}
 use Rattle.basis.specs.Bytes.{part}
 use Rattle.vr.specs.Names.{SQ}
@@ -16,13 +16,13 @@ use Rattle.vr.specs.Vr.{kind_of}
 use Rattle.vr.specs.declared.Kind.{Kind}
 use Rattle.vr.specs.declared.Kind.TheVariants.{Unknown, Short, Long, Sequence}
 use Rattle.layout.specs.Source.{explicitly}
-use Rattle.layout.specs.Tree.{Field, value, items, Elements, nil, elem, Items, none, item, Place, Data, bare, bare_field, bare_items}
+use Rattle.layout.specs.Tree.{Field, value, items, Elements, nil, elem, Items, none, item, Data, bare, bare_field, bare_items}
 use Rattle.layout.specs.Heads.{item_tag, item_end, sequence_end, undefined, allowed, element_head, item_head}
-use Rattle.layout.specs.Read.{Result, good, fault, with, after, placed, elements_at, items_at, read}
+use Rattle.layout.specs.Read.{Result, good, with, after, placed, elements_at, items_at, read}
 use Rattle.layout.specs.Write.{mark, header, put_elements, put_field, put_sequence, put_items, bytes_of, opened, closed}
 use Rattle.layout.specs.Made.{lengths_below, Made, MadeField, MadeItems}
-use Rattle.layout.specs.declared.Head.TheVariants.{Bad, End, Plain, Seq}
-use Rattle.layout.specs.declared.Spot.TheVariants.{Wrong, Over, Item}
+use Rattle.layout.specs.declared.Head.TheVariants.{End, Plain, Seq}
+use Rattle.layout.specs.declared.Spot.TheVariants.{Item}
 use Rattle.layout.proofs.ReadLaws.{at-end, at-plain, at-seq, at-over, at-item}
 use Rattle.layout.proofs.LiesLaws.{lengths_below-unknown, lengths_below-short, lengths_below-long, lengths_below-sequence}
 use Rattle.layout.proofs.MarkLaws.{At, at-next, part-at, header-short, header-long, header-sequence, short-back, long-back, sequence-back, empty-back, item_end-back, sequence_end-back, item-back}

@@ -3,13 +3,13 @@
 -- the definition at the present place, at some bound above the bytes that are left now. So nothing asks that the bound does not matter.
 -- Assumes nothing.
 use mathlib.Core.Path.{◌≡◌, refl, sym, ap, ◌∙◌}
-use mathlib.Core.Bool.{Bool, true, false}
-use Prim.Native.Nat.{ℕ, zero, suc, ◌+◌, ◌-◌, ◌≤◌, ◌<◌}
+use mathlib.Core.Bool.{Bool}
+use Prim.Native.Nat.{ℕ, ◌+◌, ◌-◌, ◌≤◌}
 use native.Mathlib.Omega.{arith}
 use Rattle.basis.specs.Bytes.{part}
 use Rattle.vr.specs.Names.{SQ}
 use Rattle.layout.specs.Source.{Source}
-use Rattle.layout.specs.Tree.{Field, value, items, Elements, nil, elem, Items, none, item, Place}
+use Rattle.layout.specs.Tree.{value, items, elem, item}
 use Rattle.layout.specs.Heads.{element_head, item_head}
 use Rattle.layout.specs.Read.{Result, good, fault, with, after, placed, elements_at, items_at, shape_of}
 use Rattle.layout.specs.Walks.{Inside, Within, Stays, container, deeper, Walked, WalkedItems}

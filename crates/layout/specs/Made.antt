@@ -3,7 +3,7 @@
 --     Made depth low d   d's tags are allowed and rise from low on, its values have even lengths that fit, SQ alone holds items, and
 --                        its items nest at most depth deep
 -- Laws: `proofs/MadeLaws.antt`. Assumes nothing.
-use Rattle.std.specs.Prelude.{◌≡◌, Bool, true, ℕ, ◌+◌, ◌-◌, ◌%◌, ◌≤◌, ◌<◌, length}
+use Rattle.std.specs.Prelude.{◌≡◌, true, ℕ, ◌+◌, ◌-◌, ◌%◌, ◌≤◌, ◌<◌, length}
 use Rattle.vr.specs.Names.{SQ}
 use Rattle.vr.specs.Vr.{kind_of}
 use Rattle.vr.specs.declared.Kind.TheVariants.{Unknown, Short, Long, Sequence}

@@ -9,11 +9,11 @@
 --     shape_of r         the code's answer to a result: its fault, or none
 -- The first argument of elements_at and items_at bounds how far the calls go. `read` gives one that is always enough
 -- (`read-fault` in `proofs/MadeLaws.antt` shows it). Laws: `proofs/ReadLaws.antt`. Assumes nothing.
-use Rattle.std.specs.Prelude.{Bool, true, false, ℕ, zero, suc, ◌+◌, ◌-◌, length}
+use Rattle.std.specs.Prelude.{Bool, false, ℕ, zero, suc, ◌+◌, ◌-◌, length}
 use Rattle.basis.specs.Bytes.{part}
 use Rattle.vr.specs.Names.{SQ}
 use Rattle.layout.specs.Source.{Source}
-use Rattle.layout.specs.Tree.{Field, value, items, Elements, nil, elem, Items, none, item, Place}
+use Rattle.layout.specs.Tree.{value, items, Elements, nil, elem, Items, none, item, Place}
 use Rattle.layout.specs.Heads.{element_head, item_head}
 use Rattle.layout.specs.declared.Head.TheVariants.{Bad, End, Plain, Seq}
 use Rattle.layout.specs.declared.Spot.TheVariants.{Wrong, Over, Item}

@@ -9,10 +9,9 @@
 -- Headers are made anew from tag, VR and length. Laws: `proofs/MarkLaws.antt`, `proofs/RoundLaws.antt`. Assumes nothing.
 use Rattle.std.specs.Prelude.{List, [], ◌∷◌, ◌++◌, ℕ, ◌/◌, length}
 use Rattle.basis.specs.Bytes.{low2, low4}
-use Rattle.vr.specs.Names.{SQ}
 use Rattle.vr.specs.Vr.{kind_of}
 use Rattle.vr.specs.declared.Kind.TheVariants.{Unknown, Short, Long, Sequence}
-use Rattle.layout.specs.Tree.{Field, value, items, Elements, nil, elem, Items, none, item, Data}
+use Rattle.layout.specs.Tree.{Field, value, items, Elements, nil, elem, Items, none, item}
 use Rattle.layout.specs.Heads.{item_tag, item_end, sequence_end, undefined}
 
 abbrev pub tag_bytes : ℕ → List ℕ

@@ -2,6 +2,7 @@
 // Elements contain sequences, sequences contain items, items contain elements: three walkers call each other in that cycle. What
 // stands side by side is passed over in a loop, so the stack grows with the depth alone, and a value is never looked into.
 #![tactic(auto)]
+
 ghost use Rattle.std.specs.Prelude.{◌≡◌, Bool, true, false, ℕ, ◌+◌, ◌-◌, ◌≤◌, ◌<◌, length};
 ghost use Rattle.basis.specs.Bytes.{le2, le4};
 ghost use Rattle.layout.specs.Limits.{deepest};

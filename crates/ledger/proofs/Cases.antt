@@ -2,7 +2,7 @@
 use mathlib.Core.Path.{◌≡◌, refl}
 use mathlib.Core.List.{List, [], ◌∷◌, ◌++◌, map}
 use native.Mathlib.Decide.{ℕ_discrete}
-use Prim.Native.Nat.{ℕ, ◌+◌, ◌*◌}
+use Prim.Native.Nat.{ℕ, ◌*◌}
 use lib.ListN.{replicate}
 use Rattle.basis.specs.Text.{ascii}
 use Rattle.buffer.specs.Buffer.{laid, cleared}

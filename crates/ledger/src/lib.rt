@@ -1,4 +1,5 @@
 #![tactic(auto)]
+
 ghost use Rattle.std.specs.Prelude.{◌≡◌, ℕ, ◌+◌, ◌-◌, ◌*◌, ◌≤◌, ◌<◌, ◌^◌, List, length, take, drop};
 ghost use Rattle.basis.specs.Bytes.{part};
 ghost use Rattle.buffer.specs.Buffer.{cleared};

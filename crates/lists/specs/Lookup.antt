@@ -9,7 +9,7 @@
 --     bytes_or x                 the bytes that were found, or no bytes
 --     Shown x y r study site    r is the value of the entry x of the study's list, else of the entry y of the site's, else an empty part of it
 -- Of a list that keeps the rule, `entry_of` is the entry of `entries` for that tag (`entry_of-entry`); other bytes it reads as far as they are entries.
-use Rattle.std.specs.Prelude.{List, [], ◌∷◌, ℕ, zero, suc, ◌+◌, eqb, ltb}
+use Rattle.std.specs.Prelude.{List, [], ◌∷◌, ℕ, zero, suc, eqb, ltb}
 use Rattle.std.proofs.Math.Option.{Option, none, some, map}
 use Rattle.std.specs.Borrow.{Bor}
 use Rattle.basis.specs.Choice.{pick, fork, then}

@@ -1,5 +1,6 @@
 // Replacement lists: their rule, and the lookup over the study's and the site's.
 #![tactic(auto)]
+
 ghost use Rattle.std.specs.Prelude.{◌≡◌, ◌≤◌, length};
 ghost use Rattle.basis.specs.Bytes.{part};
 ghost use Rattle.basis.specs.Choice.{every};

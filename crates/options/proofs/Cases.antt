@@ -3,16 +3,15 @@
 --     fine, refused        option numbers and shifts on either side of each limit
 -- The claim has the words of (0028,0303) too: for no date option, Full Dates, Modified Dates
 use mathlib.Core.Path.{◌≡◌, refl}
-use mathlib.Core.Bool.{Bool, true, false}
+use mathlib.Core.Bool.{true, false}
 use mathlib.Core.List.{List, [], ◌∷◌, map}
 use Prim.Native.Nat.{ℕ}
 use lib.IntN.{ℤ, pos, negsuc}
 use lib.ListN.{length}
 use Rattle.basis.specs.Text.{ascii}
-use Rattle.options.specs.Options.{options, code_of, meaning_of, basic_code, basic_meaning, chosen_in, chosen}
+use Rattle.options.specs.Options.{options, meaning_of, basic_code, basic_meaning, chosen_in, chosen}
 use Rattle.options.specs.Settings.{settings_fault, date_word}
-use Rattle.options.specs.declared.Opt.{Opt}
-use Rattle.options.specs.declared.Opt.TheVariants.{FullDates, ModifiedDates, DeviceIdentity, InstitutionIdentity}
+use Rattle.options.specs.declared.Opt.TheVariants.{ModifiedDates, DeviceIdentity, InstitutionIdentity}
 use Rattle.options.proofs.OptionsLaws.{code_number}
 
 abbrev Row : Type 0

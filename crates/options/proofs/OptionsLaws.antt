@@ -8,15 +8,15 @@
 --     opt_at-bit, past-five, opt_at-past          the option of a bit; a bit that is none of the six
 --     chosen_in-yes, chosen_in-no, chosen_in-end   the chosen options from a bit on, by what `Opt::at` answers: for a loop over the bits
 --     chosen_of-yes, chosen_of-no                 what that answer says
-use mathlib.Core.Path.{◌≡◌, refl, sym, ap, ◌∙◌}
+use mathlib.Core.Path.{◌≡◌, refl, sym, ap}
 use mathlib.Core.Bool.{Bool, true, false, ◌&&◌, not, false≢true}
 use mathlib.Core.List.{List, [], ◌∷◌, map}
 use mathlib.Core.Option.{Option, none, some, none-ne-some, some-injective}
-use Prim.Native.Nat.{ℕ, zero, suc, ◌+◌, ◌-◌, ◌*◌, ◌≤◌, ◌<◌, zero-le}
+use Prim.Native.Nat.{ℕ, zero, suc, ◌+◌, ◌-◌, ◌*◌, ◌≤◌, zero-le}
 use native.Mathlib.Omega.{arith}
 use native.Mathlib.Numerals.{add-one}
 use borrow.Author.Tests.{le-leb, leb-true, eqb-true}
-use lib.Dec.{T, eqb, leb}
+use lib.Dec.{eqb, leb}
 use lib.ListN.{length, drop, get_elem?, drop_of_length-le}
 use lib.Seq.{drop-nil}
 use Rattle.basis.specs.Choice.{pick, fork, then, every}

@@ -9,7 +9,7 @@
 --     chosen number               all options that it has, by rising code
 --     opt_at number bit            the option of that bit, where it is one and the option number has it
 --     chosen_of x                  what the answer of the code stands for
-use Rattle.std.specs.Prelude.{Bool, List, [], ◌∷◌, ℕ, ◌/◌, ◌%◌, ◌^◌}
+use Rattle.std.specs.Prelude.{Bool, List, [], ◌∷◌, ℕ}
 use Rattle.std.proofs.Math.Option.{Option, none, some}
 use Rattle.std.proofs.Math.ListN.{get_elem?}
 use Rattle.basis.specs.Choice.{pick, fork, then}

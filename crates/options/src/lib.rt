@@ -1,6 +1,7 @@
 // The options as a type with associated constants for their code values and meanings, and constructors from the option number;
 // and the judgement of the settings.
 #![tactic(auto)]
+
 ghost use Rattle.std.specs.Prelude.{◌≡◌, ◌+◌, ◌≤◌, ◌<◌, ◌^◌, nat_abs, length};
 ghost use Rattle.std.proofs.Math.Option.{none, some};
 ghost use Rattle.basis.specs.Choice.{pick};

@@ -1,5 +1,6 @@
 // The refusals of document 01, "When the station says no": the one place in the source where their numbers stand, each under its condition.
 // `specs/Refusals.antt` has the same list for definitions; the contracts that cite a definition tie the two.
+#![tactic(auto)]
 
 // The settings may not be asked for: a number with a bit of no option, both date options, a shift out of its range, or a shift without
 // Modified Dates.

@@ -4,8 +4,8 @@
 --     ruled-level                            where the first four do not speak, the level decides
 --     row_of-unruled                          A1: no rule speaks of a tag that has a row, so the rules' place before the rows decides nothing
 --     reserved-free                          A4: inside an item no rule speaks of the reserved tags, and they have no row
-use mathlib.Core.Path.{◌≡◌, refl, sym}
-use mathlib.Core.Bool.{Bool, true, false, not, ◌&&◌, ◌||◌, or-false}
+use mathlib.Core.Path.{◌≡◌, sym}
+use mathlib.Core.Bool.{Bool, true, false, not, ◌&&◌, or-false}
 use Prim.Native.Nat.{ℕ}
 use lib.Dec.{T, eqb, eqb→eq}
 use borrow.Author.Tests.{ne_eqb}

@@ -10,7 +10,7 @@
 --     columns-at                     the column at an index is that of the same bit
 --     legal-basic, legal-letter      what that says of the basic action, and of the letter in an option's column
 use mathlib.Core.Path.{◌≡◌, refl}
-use mathlib.Core.Bool.{Bool, true, false, ◌&&◌}
+use mathlib.Core.Bool.{Bool, true, false}
 use mathlib.Core.List.{List, [], ◌∷◌}
 use Prim.Native.Nat.{ℕ, zero, suc, ◌<◌, suc-le-suc, zero-le}
 use native.Mathlib.Nat.{le_of_suc-le-suc, not-suc-le-zero, lt_trans}

@@ -7,7 +7,7 @@
 --     stronger letter next         the same, but a C stays
 --     overriding options row n     what the options of the bits below n give together on a row
 --     cleans_dates options row      a test: Modified Dates is chosen and has C on the row
-use Rattle.std.specs.Prelude.{Bool, ℕ, zero, suc, ◌/◌, ◌%◌, ◌^◌, eqb}
+use Rattle.std.specs.Prelude.{Bool, ℕ, zero, suc, eqb}
 use Rattle.basis.specs.Choice.{pick}
 use Rattle.basis.specs.Bytes.{has_bit}
 use Rattle.table.specs.Table.{no_letter, C, letter_of}

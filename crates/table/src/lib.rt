@@ -1,6 +1,7 @@
 // Which action an element gets: document 01, the section of that name. The caller makes the table once, by `rows`, and lends it to all that
 // asks it: a constant is stored anew, row by row, wherever it is named.
 #![tactic(auto)]
+
 ghost use Rattle.std.specs.Prelude.{◌≡◌};
 ghost use Rattle.basis.specs.Choice.{among};
 ghost use Rattle.table.specs.Rows.{table};

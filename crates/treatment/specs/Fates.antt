@@ -9,7 +9,7 @@
 --     leaves_out φ                 a test: an element of this fate is left out
 --     walks_into φ                 a test: a sequence of this fate is walked into
 --     below φ level               the level of what stands in the items of a sequence of this fate
-use Rattle.std.specs.Prelude.{Bool, true, false, List, [], ◌∷◌, ℕ, eqb}
+use Rattle.std.specs.Prelude.{Bool, true, false, [], ◌∷◌, ℕ, eqb}
 use Rattle.basis.specs.Choice.{pick, among}
 use Rattle.vr.specs.Names.{DA, DT, SQ, TM, UI}
 use Rattle.table.specs.Action.{action_of}

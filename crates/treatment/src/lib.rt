@@ -1,5 +1,6 @@
 // What happens to an element: document 01, "What each action writes". It follows from the settings and the element's level, tag and VR.
 #![tactic(auto)]
+
 ghost use Rattle.std.specs.Prelude.{◌≡◌};
 ghost use Rattle.table.specs.Rows.{table};
 ghost use Rattle.treatment.specs.Fates.{is_top, as_d, by_action, fate_of, walks_into, below as belowOf};

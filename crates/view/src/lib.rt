@@ -1,6 +1,7 @@
 // The attribute view: given a tag, the whole shape is judged, and the attribute of the top level is shown as a part of the caller's
 // own data set. One walk does both: the top level is passed over in a loop that remembers where the tag stood, and under which VR.
 #![tactic(auto)]
+
 ghost use Rattle.std.specs.Prelude.{◌≡◌, length};
 ghost use Rattle.layout.specs.Limits.{deepest};
 ghost use Rattle.layout.specs.Source.{explicitly};

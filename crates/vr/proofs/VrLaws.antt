@@ -7,12 +7,12 @@
 --     kind_of-sequence   SQ alone is Sequence
 --     all_vrs-two         the letters of a VR are two bytes
 --     dummy_of-short     a dummy has at most 14 bytes
-use mathlib.Core.Path.{◌≡◌, refl, sym, ◌∙◌}
+use mathlib.Core.Path.{◌≡◌, refl}
 use mathlib.Core.Bool.{Bool, true, false}
-use mathlib.Core.List.{List, [], ◌∷◌, map}
+use mathlib.Core.List.{[], ◌∷◌, map}
 use Prim.Native.Nat.{ℕ, ◌≤◌, ◌<◌}
 use native.Mathlib.Omega.{arith}
-use lib.Dec.{T, eqb, ltb, leb, ltb→lt, leb→le}
+use lib.Dec.{eqb, ltb, leb, ltb→lt, leb→le}
 use lib.ListN.{length, replicate}
 use borrow.Author.Tests.{eqb-true}
 use Rattle.basis.specs.Choice.{pick, among}
@@ -21,7 +21,6 @@ use Rattle.basis.specs.Text.{ascii}
 use Rattle.basis.proofs.ChoiceLaws.{among-each, among-less, eqb-less}
 use Rattle.vr.specs.Names.{SQ}
 use Rattle.vr.specs.Vr.{all_vrs, long, kind_of, dummy_of}
-use Rattle.vr.specs.declared.Kind.{Kind}
 use Rattle.vr.specs.declared.Kind.TheVariants.{Unknown, Short, Long, Sequence}
 
 -- ---- known

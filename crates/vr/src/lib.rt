@@ -1,5 +1,6 @@
 // What document 01 says of each of the 34 VRs. A VR is the number that its two letters spell, lowest byte first.
 #![tactic(auto)]
+
 ghost use Rattle.std.specs.Prelude.{◌≡◌, ◌<◌, length};
 ghost use Rattle.vr.specs.Vr.{all_vrs, kind_of, served_by_lists, dummy_of, in_room};
 ghost use Rattle.vr.specs.Kinds.{KindsAfter};

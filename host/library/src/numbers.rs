@@ -5,8 +5,7 @@
 //! the proof. So this is what is trusted, and what `host/compare` is for:
 //!
 //! - that a declaration has the arguments of the header: their number, order and widths;
-//! - that `host/link-library` linked what was proved: on x86-64 the kit's archive, elsewhere the same module
-//!   compiled again;
+//! - that `host/link-library` linked what was proved, the kit's archive;
 //! - the compiler's back end, which the proof does not cover.
 //!
 //! What the library is lent it is lent truly: pointers and lengths are those of slices, and what it may write

@@ -1,7 +1,5 @@
 -- `piece_end` meets its contract. The loop's invariant: the piece from e on ends where that from a on does. Assumes nothing.
-use mathlib.Core.Path.{◌≡◌, refl, sym, ◌∙◌}
-use Prim.Native.Nat.{◌-◌, ◌≤◌}
-use Rattle.basis.specs.Pieces.{piece_end}
+use mathlib.Core.Path.{refl, sym, ◌∙◌}
 use Rattle.basis.proofs.PieceEndLaws.{piece-more, piece-found, piece-last}
 use native.Mathlib.Omega.{arith}
 use Rattle.basis.proofs.piece_end.Goals as goal

@@ -1,9 +1,7 @@
 -- `piece_end` meets its contract. The loop's invariant: the piece from e on ends where that from a on does. Assumes nothing.
-use mathlib.Core.Path.{◌≡◌, refl, sym, ◌∙◌}
+use mathlib.Core.Path.{◌≡◌}
 use Prim.Native.Nat.{◌-◌, ◌≤◌}
 use Rattle.basis.specs.Pieces.{piece_end}
-use Rattle.basis.proofs.PieceEndLaws.{piece-more, piece-found, piece-last}
-use native.Mathlib.Omega.{arith}
 use Rattle.basis.proofs.piece_end.Given as goal
 
 abbrev pub invariant-loop-e : goal.invariant-loop-e

@@ -1,9 +1,8 @@
 -- `buffer::copy` meets its contract. Assumes nothing.
 use Rattle.buffer.proofs.Laws.{laid-none, length-laid, block-more}
-use lib.ListN.{length, take, drop, get_or, set}
-use Prim.Native.Nat.{◌≤◌, ◌+◌, ◌-◌}
+use lib.ListN.{length, get_or, set}
+use Prim.Native.Nat.{◌+◌}
 use mathlib.Core.Path.{◌≡◌, sym, ap, ◌∙◌}
-use Rattle.buffer.specs.Buffer.{laid}
 use native.Mathlib.Omega.{arith}
 use Rattle.buffer.proofs.copy.Goals as goal
 

@@ -1,10 +1,8 @@
 -- `buffer::copy` meets its contract. Assumes nothing.
-use Rattle.buffer.proofs.Laws.{laid-none, length-laid, block-more}
-use lib.ListN.{length, take, drop, get_or, set}
-use Prim.Native.Nat.{◌≤◌, ◌+◌, ◌-◌}
-use mathlib.Core.Path.{◌≡◌, sym, ap, ◌∙◌}
+use lib.ListN.{take, drop}
+use Prim.Native.Nat.{◌≤◌, ◌-◌}
+use mathlib.Core.Path.{◌≡◌}
 use Rattle.buffer.specs.Buffer.{laid}
-use native.Mathlib.Omega.{arith}
 use Rattle.buffer.proofs.copy.Given as goal
 
 abbrev pub invariant-loop-i : goal.invariant-loop-i

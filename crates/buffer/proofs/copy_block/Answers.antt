@@ -1,7 +1,6 @@
 -- `buffer::copy_block` meets its contract. Assumes nothing.
 use Rattle.buffer.proofs.Laws.{laid-past, laid-cut}
 use mathlib.Core.Path.{refl, sym, ◌∙◌}
-use borrow.Author.Rules.{rules}
 use native.Mathlib.Omega.{arith}
 use Rattle.buffer.proofs.copy_block.Goals as goal
 

@@ -1,7 +1,6 @@
 -- `buffer::put` meets its contract. Assumes nothing.
 use Rattle.buffer.proofs.Laws.{laid-set, laid-past}
 use mathlib.Core.Path.{sym}
-use borrow.Author.Rules.{rules}
 use Rattle.buffer.proofs.put.Goals as goal
 
 pub returns-then-pos-out : goal.returns-then-pos-out

@@ -1,9 +1,8 @@
 -- `buffer::zero_from` meets its contract. Assumes nothing.
 use Rattle.buffer.proofs.Laws.{laid-none, cleared-step, cleared-is}
-use lib.ListN.{length, set, replicate, length-set}
-use Prim.Native.Nat.{◌≤◌, ◌-◌}
+use lib.ListN.{set, length-set}
+use Prim.Native.Nat.{◌-◌}
 use mathlib.Core.Path.{◌≡◌, refl, sym, ap, ◌∙◌}
-use Rattle.buffer.specs.Buffer.{laid}
 use native.Mathlib.Omega.{arith}
 use Rattle.buffer.proofs.zero_from.Goals as goal
 

@@ -1,10 +1,8 @@
 -- `buffer::zero_from` meets its contract. Assumes nothing.
-use Rattle.buffer.proofs.Laws.{laid-none, cleared-step, cleared-is}
-use lib.ListN.{length, set, replicate, length-set}
+use lib.ListN.{length, replicate}
 use Prim.Native.Nat.{◌≤◌, ◌-◌}
-use mathlib.Core.Path.{◌≡◌, refl, sym, ap, ◌∙◌}
+use mathlib.Core.Path.{◌≡◌}
 use Rattle.buffer.specs.Buffer.{laid}
-use native.Mathlib.Omega.{arith}
 use Rattle.buffer.proofs.zero_from.Given as goal
 
 abbrev pub invariant-loop-i : goal.invariant-loop-i

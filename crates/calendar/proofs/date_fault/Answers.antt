@@ -1,13 +1,9 @@
 -- `calendar::date_fault` meets its contract. The loop's invariant is `Judging`: the value is refused exactly where one of the
 -- pieces left is. The measure: what is left of the value. Assumes nothing.
 use mathlib.Core.Path.{ap}
-use Prim.Native.Nat.{◌-◌}
-use mir.Syntax.{w32}
-use mir.Val.{to_z}
 use mir.Facts.{to_z-of_z}
 use Rattle.calendar.specs.Dates.{date_in}
-use Rattle.calendar.proofs.Judging.{Judging, judge-nothing, judge-start, judge-cut, judge-bad, judge-last, judge-on}
-use borrow.Author.Rules.{rules}
+use Rattle.calendar.proofs.Judging.{judge-nothing, judge-start, judge-cut, judge-bad, judge-last, judge-on}
 use native.Mathlib.Omega.{arith}
 use Rattle.calendar.proofs.date_fault.Goals as goal
 

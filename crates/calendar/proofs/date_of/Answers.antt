@@ -5,7 +5,6 @@ use Rattle.calendar.specs.Dates.{last_year, year_len}
 use Rattle.calendar.proofs.SpansLaws.{before-one, in_span-below}
 use Rattle.calendar.proofs.Closed.{month-in}
 use Rattle.calendar.proofs.DatesLaws.{date-within}
-use borrow.Author.Rules.{rules}
 use native.Mathlib.Omega.{arith}
 use Rattle.calendar.proofs.date_of.Goals as goal
 

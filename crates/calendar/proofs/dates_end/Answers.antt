@@ -1,6 +1,5 @@
 -- `calendar::dates_end` meets its contract: one law for each way through it. Assumes nothing.
 use Rattle.calendar.proofs.Walks.{ends-pad, ends-text, ends-odd, ends-none, ends-dt}
-use borrow.Author.Rules.{rules}
 use native.Mathlib.Omega.{arith}
 use Rattle.calendar.proofs.dates_end.Goals as goal
 

@@ -2,7 +2,6 @@
 use mathlib.Core.Path.{refl}
 use borrow.Author.Tests.{le-leb, lt-leb}
 use Rattle.calendar.specs.Dates.{real}
-use borrow.Author.Rules.{rules}
 use Rattle.calendar.proofs.is_real.Goals as goal
 
 pub returns-then-d-lt-FIRST_YEAR : goal.returns-then-d-lt-FIRST_YEAR

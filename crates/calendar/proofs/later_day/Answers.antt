@@ -1,7 +1,6 @@
 -- `calendar::later_day` meets its contract: by the sign of the shift. Assumes nothing.
 use mathlib.Core.Path.{refl}
 use Rattle.calendar.proofs.Signs.{is-neg, is-pos, minus, there, back}
-use borrow.Author.Rules.{rules}
 use native.Mathlib.Omega.{arith}
 use Rattle.calendar.proofs.later_day.Goals as goal
 

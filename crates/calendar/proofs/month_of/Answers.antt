@@ -1,8 +1,6 @@
 -- `calendar::month_of` meets its contract. The loop's invariant: the month begins before the day. The measure: the months left.
 -- Assumes nothing.
-use Prim.Native.Nat.{◌<◌, ◌+◌, ◌-◌, ◌≤◌, ◌/◌}
-use Rattle.calendar.specs.Spans.{before}
-use Rattle.calendar.specs.Dates.{month_len}
+use Prim.Native.Nat.{◌+◌, ◌-◌, ◌/◌}
 use Rattle.calendar.proofs.Closed.{month-high, month-below, year-long}
 use native.Mathlib.Omega.{arith}
 use Rattle.calendar.proofs.month_of.Goals as goal

@@ -1,9 +1,7 @@
 -- `calendar::month_of` meets its contract. The loop's invariant: the month begins before the day. The measure: the months left.
-use Prim.Native.Nat.{◌<◌, ◌+◌, ◌-◌, ◌≤◌, ◌/◌}
+use Prim.Native.Nat.{◌<◌, ◌-◌, ◌≤◌}
 use Rattle.calendar.specs.Spans.{before}
 use Rattle.calendar.specs.Dates.{month_len}
-use Rattle.calendar.proofs.Closed.{month-high, month-below, year-long}
-use native.Mathlib.Omega.{arith}
 use Rattle.calendar.proofs.month_of.Given as goal
 
 abbrev pub invariant-loop-m : goal.invariant-loop-m

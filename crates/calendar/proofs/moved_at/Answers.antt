@@ -4,7 +4,6 @@ use mir.Facts.{to_z-of_z}
 use Rattle.calendar.specs.Dates.{moved}
 use Rattle.calendar.specs.Text.{date_at, number_in}
 use Rattle.calendar.proofs.TextLaws.{text-two}
-use borrow.Author.Rules.{rules}
 use native.Mathlib.Omega.{arith}
 use Rattle.calendar.proofs.moved_at.Goals as goal
 

@@ -1,7 +1,6 @@
 -- `calendar::moved_date` meets its contract: by the length of the piece. Assumes nothing.
 use mir.Facts.{to_z-of_z}
 use Rattle.calendar.proofs.Judging.{long, at-date, no-date}
-use borrow.Author.Rules.{rules}
 use native.Mathlib.Omega.{arith}
 use Rattle.calendar.proofs.moved_date.Goals as goal
 

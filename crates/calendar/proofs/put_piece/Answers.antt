@@ -4,7 +4,6 @@ use mir.Facts.{to_z-of_z}
 use Rattle.buffer.specs.Buffer.{laid}
 use Rattle.calendar.specs.Dates.{date_in}
 use Rattle.calendar.proofs.Writing.{put-same, put-long, put-moved}
-use borrow.Author.Rules.{rules}
 use native.Mathlib.Omega.{arith}
 use Rattle.calendar.proofs.put_piece.Goals as goal
 

@@ -1,14 +1,8 @@
 -- `calendar::put_shifted` meets its contract. The loop's invariant is `Writing`: what is written and the pieces left make the
 -- text. The measure: what is left of the value. Assumes nothing.
-use mathlib.Core.Path.{ap, ◌∙◌}
-use Prim.Native.Nat.{◌-◌, ◌^◌}
-use lib.ListN.{length}
-use mir.Syntax.{w32}
-use mir.Val.{to_z}
+use Prim.Native.Nat.{◌^◌}
 use mir.Facts.{to_z-of_z}
-use Rattle.buffer.proofs.Laws.{length-laid}
-use Rattle.calendar.proofs.Writing.{Writing, write-start, write-cut, write-end, write-next, write-size, write-last, write-on}
-use borrow.Author.Rules.{rules}
+use Rattle.calendar.proofs.Writing.{write-start, write-cut, write-end, write-next, write-last, write-on}
 use native.Mathlib.Omega.{arith}
 use Rattle.calendar.proofs.put_shifted.Goals as goal
 

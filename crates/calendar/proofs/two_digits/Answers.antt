@@ -1,7 +1,6 @@
 -- `calendar::two_digits` meets its contract: the tests of `two_digits`, in its order. Assumes nothing.
 use borrow.Author.Tests.{le-leb, lt-leb}
 use Rattle.calendar.specs.Text.{two_digits}
-use borrow.Author.Rules.{rules}
 use Rattle.calendar.proofs.two_digits.Goals as goal
 
 pub returns-then-x-lt48 : goal.returns-then-x-lt48

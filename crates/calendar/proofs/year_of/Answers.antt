@@ -1,7 +1,6 @@
 -- `calendar::year_of` meets its contract. The loop's invariant: the year begins before the day. The measure: the years left.
 -- Assumes nothing.
-use Prim.Native.Nat.{◌<◌, ◌+◌, ◌-◌, ◌*◌, ◌/◌}
-use Rattle.calendar.specs.Spans.{before}
+use Prim.Native.Nat.{◌+◌, ◌-◌, ◌*◌, ◌/◌}
 use Rattle.calendar.specs.Dates.{last_year, year_len}
 use Rattle.calendar.proofs.SpansLaws.{in_span-below}
 use Rattle.calendar.proofs.Closed.{year-high, first-days}

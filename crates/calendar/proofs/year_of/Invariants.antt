@@ -1,10 +1,7 @@
 -- `calendar::year_of` meets its contract. The loop's invariant: the year begins before the day. The measure: the years left.
-use Prim.Native.Nat.{◌<◌, ◌+◌, ◌-◌, ◌*◌, ◌/◌}
+use Prim.Native.Nat.{◌<◌, ◌+◌, ◌-◌}
 use Rattle.calendar.specs.Spans.{before}
 use Rattle.calendar.specs.Dates.{last_year, year_len}
-use Rattle.calendar.proofs.SpansLaws.{in_span-below}
-use Rattle.calendar.proofs.Closed.{year-high, first-days}
-use native.Mathlib.Omega.{arith}
 use Rattle.calendar.proofs.year_of.Given as goal
 
 abbrev pub invariant-loop-y : goal.invariant-loop-y

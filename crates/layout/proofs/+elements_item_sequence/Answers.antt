@@ -1,13 +1,9 @@
 -- The cycle of `layout::elements`, `layout::item`, `layout::sequence` meets its contracts. Assumes nothing.
-use Rattle.layout.specs.Source.{explicitly}
 use Rattle.layout.specs.Walks.{Inside, Within}
 use Rattle.layout.specs.declared.Head.TheVariants.{Plain, Seq}
 use Rattle.layout.specs.declared.Spot.TheVariants.{Item}
-use Rattle.layout.proofs.WalkLaws.{Going, GoingItems, start, start-items, stop-bad, stop-end, go-plain, stop-seq, go-seq, stop-wrong, stop-over, stop-item, go-item}
-use Prim.Native.Nat.{◌+◌, ◌-◌, ◌*◌}
-use borrow.Author.Rules.{rules}
+use Rattle.layout.proofs.WalkLaws.{start, start-items, stop-bad, stop-end, go-plain, stop-seq, go-seq, stop-wrong, stop-over, stop-item, go-item}
 use native.Mathlib.Omega.{arith}
-use Prim.Native.Nat.{ℕ, ◌<◌}
 use Rattle.layout.proofs.+elements_item_sequence.Goals as goal
 
 pub elements-loop-n-init : goal.elements-loop-n-init

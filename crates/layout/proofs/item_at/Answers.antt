@@ -1,7 +1,6 @@
 -- `layout::item_at` meets its contract. Assumes nothing.
 use borrow.Author.Tests.{eq-eqb, ne_eqb}
 use Rattle.layout.specs.Heads.{item_at}
-use borrow.Author.Rules.{rules}
 use native.Mathlib.Omega.{arith}
 use Rattle.layout.proofs.item_at.Goals as goal
 

@@ -2,7 +2,6 @@
 use borrow.Author.Tests.{eq-eqb, ne_eqb}
 use Rattle.layout.specs.Heads.{item_body}
 use Rattle.layout.proofs.HeadLaws.{fault-none}
-use borrow.Author.Rules.{rules}
 use native.Mathlib.Omega.{arith}
 use Rattle.layout.proofs.item_body.Goals as goal
 

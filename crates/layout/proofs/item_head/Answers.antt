@@ -2,7 +2,6 @@
 use borrow.Author.Tests.{eq-eqb, ne_eqb, lt-ltb, le-ltb}
 use Rattle.layout.specs.Heads.{item_head}
 use Rattle.layout.proofs.HeadLaws.{apart}
-use borrow.Author.Rules.{rules}
 use native.Mathlib.Omega.{arith}
 use Rattle.layout.proofs.item_head.Goals as goal
 

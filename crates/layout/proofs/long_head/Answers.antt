@@ -1,7 +1,6 @@
 -- `layout::long_head` meets its contract. Assumes nothing.
 use borrow.Author.Tests.{eq-eqb, ne_eqb, lt-ltb, le-ltb}
 use Rattle.layout.specs.Heads.{long_head}
-use borrow.Author.Rules.{rules}
 use native.Mathlib.Omega.{arith}
 use Rattle.layout.proofs.long_head.Goals as goal
 

@@ -1,6 +1,5 @@
 -- `layout::shape_of` meets its contract. Assumes nothing.
 use Rattle.layout.specs.Read.{read}
-use borrow.Author.Rules.{rules}
 use native.Mathlib.Omega.{arith}
 use Rattle.layout.proofs.shape_of.Goals as goal
 

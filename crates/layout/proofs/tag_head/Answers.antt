@@ -1,7 +1,6 @@
 -- `layout::tag_head` meets its contract. Assumes nothing.
 use borrow.Author.Tests.{lt-ltb, le-ltb, le-leb, lt-leb}
 use Rattle.layout.specs.Heads.{tag_head, allowed}
-use borrow.Author.Rules.{rules}
 use Rattle.layout.proofs.tag_head.Goals as goal
 
 pub returns-then-tag-low : goal.returns-then-tag-low

@@ -1,8 +1,7 @@
 -- `layout::value_head` meets its contract. Assumes nothing.
 use borrow.Author.Tests.{eq-eqb, ne_eqb}
-use Rattle.layout.specs.Heads.{length_fault, value_head}
+use Rattle.layout.specs.Heads.{value_head}
 use Rattle.layout.proofs.HeadLaws.{fault-none}
-use borrow.Author.Rules.{rules}
 use native.Mathlib.Omega.{arith}
 use Rattle.layout.proofs.value_head.Goals as goal
 

@@ -1,7 +1,6 @@
 -- `layout::vr_head` meets its contract. Assumes nothing.
-use mathlib.Core.Path.{◌≡◌, sym, ◌∙◌}
+use mathlib.Core.Path.{sym, ◌∙◌}
 use Rattle.layout.proofs.HeadLaws.{vr_head-unknown, vr_head-short, vr_head-long, vr_head-sequence}
-use borrow.Author.Rules.{rules}
 use native.Mathlib.Omega.{arith}
 use Rattle.layout.proofs.vr_head.Goals as goal
 

@@ -1,7 +1,6 @@
 -- `find` meets its contract: one law for each way on in its loop or out of it. Assumes nothing.
 use Prim.Native.Nat.{◌-◌}
-use Rattle.ledger.proofs.SearchTurns.{Searched, searched-start, searched-found, searched-more, searched-end}
-use native.Mathlib.Omega.{arith}
+use Rattle.ledger.proofs.SearchTurns.{Searched}
 use Rattle.ledger.proofs.find.Given as goal
 
 abbrev pub invariant-loop-i : goal.invariant-loop-i

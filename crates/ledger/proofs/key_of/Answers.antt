@@ -1,7 +1,6 @@
 -- `key_of` meets its contract: the UID is written over zeros. Assumes nothing.
 use mathlib.Core.Path.{◌∙◌}
 use Rattle.ledger.proofs.SlotLaws.{slot_of-laid}
-use borrow.Author.Rules.{rules}
 use native.Mathlib.Omega.{arith}
 use Rattle.ledger.proofs.key_of.Goals as goal
 

@@ -1,8 +1,5 @@
 -- `same_slot` meets its contract: one law for each way on in its loop or out of it. Assumes nothing.
-use mathlib.Core.Logic.{⊎_elim}
-use Prim.Native.Nat.{◌-◌}
-use Rattle.ledger.specs.Slots.{slot_size}
-use Rattle.ledger.proofs.SearchTurns.{Compared, compared-start, compared-differ, compared-equal, compared-end}
+use Rattle.ledger.proofs.SearchTurns.{compared-start, compared-differ, compared-equal, compared-end}
 use native.Mathlib.Omega.{arith}
 use Rattle.ledger.proofs.same_slot.Goals as goal
 use Rattle.ledger.proofs.same_slot.Goals.{then-ledger-at, else-ledger-at}
@@ -11,9 +8,9 @@ pub loop-i-init : goal.loop-i-init
 loop-i-init c = compared-start _ _ _
 
 pub loop-i-preserved : goal.loop-i-preserved
-loop-i-preserved c = 
+loop-i-preserved c =
     elim c.if-ledger-at.branch [
-      then-ledger-at w ↦ compared-differ c.loop-i.invariant (omega arith) w.if-ledger-at.true w.same-is
+      | then-ledger-at w ↦ compared-differ c.loop-i.invariant (omega arith) w.if-ledger-at.true w.same-is
       | else-ledger-at w ↦ compared-equal c.loop-i.invariant (omega arith) w.if-ledger-at.false w.same-is
     ]
 

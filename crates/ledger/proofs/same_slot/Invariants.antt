@@ -1,9 +1,7 @@
 -- `same_slot` meets its contract: one law for each way on in its loop or out of it. Assumes nothing.
-use mathlib.Core.Logic.{⊎_elim}
 use Prim.Native.Nat.{◌-◌}
 use Rattle.ledger.specs.Slots.{slot_size}
-use Rattle.ledger.proofs.SearchTurns.{Compared, compared-start, compared-differ, compared-equal, compared-end}
-use native.Mathlib.Omega.{arith}
+use Rattle.ledger.proofs.SearchTurns.{Compared}
 use Rattle.ledger.proofs.same_slot.Given as goal
 
 abbrev pub invariant-loop-i : goal.invariant-loop-i

@@ -1,6 +1,5 @@
 -- `slot_for` meets its contract: one law for each way out. Assumes nothing.
 use Rattle.ledger.proofs.SlotForLaws.{answer-old, answer-new, answer-full}
-use borrow.Author.Rules.{rules}
 use native.Mathlib.Omega.{arith}
 use Rattle.ledger.proofs.slot_for.Goals as goal
 

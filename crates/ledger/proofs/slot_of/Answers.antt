@@ -1,7 +1,6 @@
 -- `slot_of` meets its contract: the key is the UID's slot. Assumes nothing.
 use mathlib.Core.Path.{subst}
 use Rattle.ledger.proofs.SlotForLaws.{Answered}
-use borrow.Author.Rules.{rules}
 use Rattle.ledger.proofs.slot_of.Goals as goal
 
 pub returns : goal.returns

@@ -1,13 +1,7 @@
 -- `lists::all_printable` meets its contract. The loop's invariant: what was found so far and what is left say the whole. Assumes nothing.
-use Prim.Native.Nat.{◌≤◌, ◌<◌, ◌-◌}
-use mathlib.Core.Path.{◌≡◌, refl, sym, ◌∙◌}
-use mathlib.Core.Bool.{◌&&◌}
-use Rattle.basis.specs.Bytes.{part}
-use Rattle.basis.specs.Choice.{every}
+use mathlib.Core.Path.{sym, ◌∙◌}
 use Rattle.lists.specs.Lists.{printable}
 use Rattle.lists.proofs.ListsLaws.{every-end, every-turn}
-use borrow.Author.Rules.{rules}
-use native.Mathlib.Omega.{arith}
 use Rattle.lists.proofs.all_printable.Goals as goal
 
 pub loop-i-preserved : goal.loop-i-preserved

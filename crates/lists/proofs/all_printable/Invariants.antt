@@ -1,13 +1,10 @@
 -- `lists::all_printable` meets its contract. The loop's invariant: what was found so far and what is left say the whole. Assumes nothing.
-use Prim.Native.Nat.{◌≤◌, ◌<◌, ◌-◌}
-use mathlib.Core.Path.{◌≡◌, refl, sym, ◌∙◌}
+use Prim.Native.Nat.{◌-◌}
+use mathlib.Core.Path.{◌≡◌}
 use mathlib.Core.Bool.{◌&&◌}
 use Rattle.basis.specs.Bytes.{part}
 use Rattle.basis.specs.Choice.{every}
 use Rattle.lists.specs.Lists.{printable}
-use Rattle.lists.proofs.ListsLaws.{every-end, every-turn}
-use borrow.Author.Rules.{rules}
-use native.Mathlib.Omega.{arith}
 use Rattle.lists.proofs.all_printable.Given as goal
 
 abbrev pub invariant-loop-i : goal.invariant-loop-i

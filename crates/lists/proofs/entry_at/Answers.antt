@@ -3,8 +3,6 @@ use mathlib.Core.Path.{sym, ap}
 use Rattle.lists.specs.Handed.{found_of}
 use Rattle.lists.proofs.HandedLaws.{num_of-got, num_of-bad}
 use Rattle.lists.proofs.ListsLaws.{entry_at-tagless, entry_at-short, entry_at-empty, entry_at-long, entry_at-cut, entry_at-is}
-use borrow.Author.Rules.{rules}
-use native.Mathlib.Omega.{arith}
 use Rattle.lists.proofs.entry_at.Goals as goal
 
 pub returns-then-s-place : goal.returns-then-s-place

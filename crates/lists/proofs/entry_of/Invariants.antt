@@ -1,11 +1,5 @@
 -- `lists::entry_of` meets its contract. The loop's invariant is `Seeking`: the entries that are left say what is found. The measure is how many
-use Prim.Native.Nat.{◌≤◌}
-use mathlib.Core.Path.{◌≡◌, sym, ap, ◌∙◌}
-use Rattle.lists.specs.Handed.{found_of}
-use Rattle.lists.proofs.HandedLaws.{found_of-at, found_of-nothing}
-use Rattle.lists.proofs.LookupLaws.{Seeking, seeking-start, seeking-done, seeking-broken, seeking-below, seeking-here, seeking-past}
-use borrow.Author.Rules.{rules}
-use native.Mathlib.Omega.{arith}
+use Rattle.lists.proofs.LookupLaws.{Seeking}
 use Rattle.lists.proofs.entry_of.Given as goal
 
 abbrev pub invariant-loop-left : goal.invariant-loop-left

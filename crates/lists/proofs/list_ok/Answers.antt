@@ -1,11 +1,9 @@
 -- `lists::list_ok` meets its contract. The loop's invariant is `Judging`: the entries that are left say the whole. The measure is how many
 -- entries there may still be. Assumes nothing.
 use borrow.Author.Tests.{not-true, not-false}
-use Prim.Native.Nat.{◌≤◌}
-use mathlib.Core.Path.{◌≡◌, sym, ◌∙◌}
+use mathlib.Core.Path.{sym, ◌∙◌}
 use Rattle.lists.proofs.HandedLaws.{found_of-at, found_of-nothing}
-use Rattle.lists.proofs.ListsLaws.{entry_at-within, Judging, judging-start, judging-end, judging-many, judging-broken, judging-falls, judging-odd, judging-next}
-use borrow.Author.Rules.{rules}
+use Rattle.lists.proofs.ListsLaws.{entry_at-within, judging-start, judging-end, judging-many, judging-broken, judging-falls, judging-odd, judging-next}
 use native.Mathlib.Omega.{arith}
 use Rattle.lists.proofs.list_ok.Goals as goal
 

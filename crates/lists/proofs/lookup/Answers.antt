@@ -1,11 +1,10 @@
 -- `lists::lookup` meets its contract: the study's entry, the site's, neither. Assumes nothing.
-use mathlib.Core.Path.{◌≡◌, sym, ap, ◌∙◌}
+use mathlib.Core.Path.{◌≡◌, sym, ap}
 use mathlib.Core.Option.{none, some}
 use Rattle.lists.specs.Lookup.{entry_of, bytes_or}
 use Rattle.lists.proofs.HandedLaws.{found_of-at, found_of-nothing}
 use Rattle.lists.proofs.LookupLaws.{entry_of-within, asked-study, asked-site, asked-neither}
 use Rattle.basis.proofs.PartsLaws.{is-part}
-use borrow.Author.Rules.{rules}
 use native.Mathlib.Omega.{arith}
 use Rattle.lists.proofs.lookup.Goals as goal
 

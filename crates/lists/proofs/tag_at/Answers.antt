@@ -1,11 +1,11 @@
 -- `lists::tag_at` meets its contract. The loop's invariant is `Going`: the groups that were read and what is left say the whole number.
 -- The measure is what is left of the list. Assumes nothing.
-use Prim.Native.Nat.{◌≤◌, ◌<◌, ◌+◌, ◌-◌, ◌*◌, ◌%◌}
-use mathlib.Core.Path.{◌≡◌, sym, ap}
-use lib.ListN.{length, get_or}
+use Prim.Native.Nat.{◌%◌}
+use mathlib.Core.Path.{sym, ap}
+use lib.ListN.{get_or}
 use Rattle.lists.specs.Lists.{most_tag}
 use Rattle.lists.specs.Handed.{num_of}
-use Rattle.lists.proofs.NumberLaws.{number_at-end, number_at-small, Going, going-start, going-more, going-zero, going-last, going-large, going-end, going-past, worth}
+use Rattle.lists.proofs.NumberLaws.{number_at-end, number_at-small, going-start, going-more, going-zero, going-last, going-large, going-end, going-past, worth}
 use native.Mathlib.Omega.{arith}
 use Rattle.lists.proofs.tag_at.Goals as goal
 

@@ -1,10 +1,9 @@
 -- `options::put` meets its contract: the whole text is a part of itself. Assumes nothing.
-use mathlib.Core.Path.{◌≡◌, ap, ◌∙◌}
+use mathlib.Core.Path.{ap, ◌∙◌}
 use Prim.Native.Nat.{ℕ, ◌+◌}
 use native.Mathlib.Nat.{sub-zero}
 use Rattle.buffer.specs.Buffer.{laid}
 use Rattle.basis.proofs.BytesLaws.{part-all}
-use borrow.Author.Rules.{rules}
 use Rattle.options.proofs.put.Goals as goal
 
 pub returns : goal.returns

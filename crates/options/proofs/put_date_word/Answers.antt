@@ -1,7 +1,6 @@
 -- `options::put_date_word` meets its contract, by what `Opt::is_in` and `put` ensure. Assumes nothing.
 use Rattle.options.specs.Settings.{date_word}
-use mathlib.Core.Path.{◌≡◌, sym, ◌∙◌}
-use borrow.Author.Rules.{rules}
+use mathlib.Core.Path.{sym, ◌∙◌}
 use Rattle.options.proofs.put_date_word.Goals as goal
 
 pub put-requires : goal.put-requires

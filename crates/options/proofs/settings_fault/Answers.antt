@@ -3,7 +3,6 @@ use mathlib.Core.Path.{refl, ap, ◌∙◌}
 use lib.IntN.{nat_abs}
 use Rattle.options.specs.Settings.{settings_fault}
 use mir.Facts.{to_z-of_z}
-use borrow.Author.Rules.{rules}
 use Rattle.options.proofs.settings_fault.Goals as goal
 
 pub returns : goal.returns

@@ -1,9 +1,7 @@
 -- `options::size_of` meets its contract: by the sign of the shift. Assumes nothing.
-use mathlib.Core.Path.{◌≡◌, refl}
 use native.Mathlib.Numerals.{add-one}
 use lib.IntN.{pos, negsuc}
 use Rattle.options.proofs.SignLaws.{is-neg, is-pos, minus, there}
-use borrow.Author.Rules.{rules}
 use native.Mathlib.Omega.{arith}
 use Rattle.options.proofs.size_of.Goals as goal
 

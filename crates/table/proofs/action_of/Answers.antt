@@ -2,7 +2,6 @@
 use mathlib.Core.Path.{sym, ◌∙◌, ap}
 use Rattle.table.specs.Action.{on_row}
 use Rattle.table.proofs.ActionLaws.{action_of-ruled, action_of-row}
-use borrow.Author.Rules.{rules}
 use Rattle.table.proofs.action_of.Goals as goal
 
 pub returns-then-is_ruled : goal.returns-then-is_ruled

@@ -5,7 +5,6 @@ use borrow.Author.Tests.{eq-eqb, ne_eqb}
 use Rattle.basis.specs.Choice.{among}
 use Rattle.table.specs.Rules.{reserved}
 use Rattle.table.proofs.RulesLaws.{ruled-curve, ruled-private, ruled-overlay, ruled-zeroth, ruled-level}
-use borrow.Author.Rules.{rules}
 use Rattle.table.proofs.is_ruled.Goals as goal
 
 pub returns-then-is_curve : goal.returns-then-is_curve

@@ -1,10 +1,9 @@
 -- `table::on_row` meets its contract: one law for each branch of `on_row`. Assumes nothing.
-use mathlib.Core.Path.{◌≡◌, sym, ◌∙◌, ap}
+use mathlib.Core.Path.{sym, ◌∙◌, ap}
 use borrow.Author.Tests.{eqb-true}
 use Rattle.table.specs.Action.{action_for, on_row}
 use Rattle.table.proofs.OverrideLaws.{over-none, over-some}
 use Rattle.table.proofs.ActionLaws.{on_row-none, on_row-dates, on_row-letter}
-use borrow.Author.Rules.{rules}
 use Rattle.table.proofs.on_row.Goals as goal
 
 pub returns-then-row-eq-NO_ROW : goal.returns-then-row-eq-NO_ROW

@@ -1,12 +1,10 @@
 -- `table::overriding_letter` meets its contract. The invariant: the letter is what the options passed give together, and what is left of
 -- the option number and of the row begins with the next option. The measure is how many options are left. Assumes nothing.
-use mathlib.Core.Logic.{⊎_elim}
-use mathlib.Core.Path.{◌≡◌, refl, sym, ◌∙◌, ap}
-use Prim.Native.Nat.{◌≤◌, ◌-◌, ◌/◌, ◌^◌}
+use mathlib.Core.Path.{refl, sym, ◌∙◌, ap}
+use Prim.Native.Nat.{◌/◌}
 use native.Mathlib.Nat.{div-one, le_antisymm}
-use Rattle.table.specs.Override.{option_count, overriding}
+use Rattle.table.specs.Override.{overriding}
 use Rattle.table.proofs.OverrideLaws.{place-next, overriding-chosen, overriding-unchosen}
-use borrow.Author.Rules.{rules}
 use native.Mathlib.Omega.{arith}
 use Rattle.table.proofs.overriding_letter.Goals as goal
 use Rattle.table.proofs.overriding_letter.Goals.{then-left-eq1, else-left-eq1}
@@ -24,7 +22,7 @@ loop-bit-preserved c =
       ap (λ n. n / 2) v.1 ∙ place-next a.options 2 bit,
       ap (λ n. n / 16) v.2 ∙ place-next a.row 16 bit,
       elim c.if-left-eq1.branch [
-        then-left-eq1 w ↦ w.letter-is ∙ w.stronger_of-letter.ensures ∙ overriding-chosen a.options a.row bit v.1 v.2 v.3 w.if-left-eq1.true
+        | then-left-eq1 w ↦ w.letter-is ∙ w.stronger_of-letter.ensures ∙ overriding-chosen a.options a.row bit v.1 v.2 v.3 w.if-left-eq1.true
         | else-left-eq1 w ↦ w.letter-is ∙ overriding-unchosen a.options a.row bit v.1 v.2 v.3 w.if-left-eq1.false
       ],
     )

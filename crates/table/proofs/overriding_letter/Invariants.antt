@@ -1,12 +1,7 @@
 -- `table::overriding_letter` meets its contract. The invariant: the letter is what the options passed give together, and what is left of
-use mathlib.Core.Logic.{⊎_elim}
-use mathlib.Core.Path.{◌≡◌, refl, sym, ◌∙◌, ap}
+use mathlib.Core.Path.{◌≡◌}
 use Prim.Native.Nat.{◌≤◌, ◌-◌, ◌/◌, ◌^◌}
-use native.Mathlib.Nat.{div-one, le_antisymm}
 use Rattle.table.specs.Override.{option_count, overriding}
-use Rattle.table.proofs.OverrideLaws.{place-next, overriding-chosen, overriding-unchosen}
-use borrow.Author.Rules.{rules}
-use native.Mathlib.Omega.{arith}
 use Rattle.table.proofs.overriding_letter.Given as goal
 
 abbrev pub invariant-loop-bit : goal.invariant-loop-bit

@@ -1,6 +1,5 @@
 -- `treatment::as_clean` meets its contract. Assumes nothing.
 use borrow.Author.Tests.{eq-eqb, ne_eqb}
-use borrow.Author.Rules.{rules}
 use Rattle.treatment.proofs.as_clean.Goals as goal
 
 pub returns-then-vr-eq-SQ : goal.returns-then-vr-eq-SQ

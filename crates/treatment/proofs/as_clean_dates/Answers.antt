@@ -1,7 +1,6 @@
 -- `treatment::as_clean_dates` meets its contract. Assumes nothing.
 use borrow.Author.Tests.{eq-eqb, ne_eqb}
 use Rattle.basis.specs.Choice.{among}
-use borrow.Author.Rules.{rules}
 use Rattle.treatment.proofs.as_clean_dates.Goals as goal
 
 pub returns-then-vr-eq-SQ : goal.returns-then-vr-eq-SQ

@@ -1,5 +1,4 @@
 -- `treatment::by_action` meets its contract. Assumes nothing.
-use borrow.Author.Rules.{rules}
 use Rattle.treatment.proofs.by_action.Goals as goal
 
 pub returns-in-Keep : goal.returns-in-Keep

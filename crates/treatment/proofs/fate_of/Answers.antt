@@ -2,7 +2,6 @@
 use mathlib.Core.Path.{◌∙◌, ap}
 use Rattle.table.specs.Action.{action_of}
 use Rattle.treatment.specs.Fates.{by_action, fate_of}
-use borrow.Author.Rules.{rules}
 use Rattle.treatment.proofs.fate_of.Goals as goal
 
 pub returns : goal.returns

@@ -1,11 +1,8 @@
 -- `component_end` meets its contract. The loop's invariant: the digits from e on end where those from a on do. Assumes nothing.
-use mathlib.Core.Path.{◌≡◌, sym, ap, ◌∙◌}
+use mathlib.Core.Path.{◌≡◌}
 use Prim.Native.Nat.{◌+◌, ◌-◌, ◌≤◌}
 use Rattle.basis.specs.Bytes.{part}
 use Rattle.uid.specs.Scan.{digits, lead}
-use Rattle.basis.proofs.TextLaws.{is_digit-yes, is_digit-low, is_digit-high}
-use Rattle.uid.proofs.ComponentTurns.{digits-more, digits-found, digits-last, lead-zero, lead-digits, lead-past}
-use native.Mathlib.Omega.{arith}
 use Rattle.uid.proofs.component_end.Given as goal
 
 abbrev pub invariant-loop-e : goal.invariant-loop-e

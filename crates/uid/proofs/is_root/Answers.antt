@@ -2,7 +2,6 @@
 use mathlib.Core.Path.{ap, ◌∙◌}
 use Rattle.basis.proofs.BytesLaws.{part-all}
 use Rattle.uid.specs.Uid.{is_root}
-use borrow.Author.Rules.{rules}
 use Rattle.uid.proofs.is_root.Goals as goal
 
 pub returns : goal.returns

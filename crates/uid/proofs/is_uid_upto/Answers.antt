@@ -1,6 +1,5 @@
 -- `is_uid_upto` meets its contract: one law for each way out. Assumes nothing.
 use Rattle.uid.proofs.UidTurns.{upto-long, upto-none, upto-span}
-use borrow.Author.Rules.{rules}
 use native.Mathlib.Omega.{arith}
 use Rattle.uid.proofs.is_uid_upto.Goals as goal
 

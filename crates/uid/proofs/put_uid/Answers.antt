@@ -1,7 +1,6 @@
 -- `put_uid` meets its contract: what its three calls leave is one write. Assumes nothing.
 use Rattle.uid.proofs.NewUidLaws.{length-new_uid}
 use Rattle.uid.proofs.PutLaws.{put-whole}
-use borrow.Author.Rules.{rules}
 use native.Mathlib.Omega.{arith}
 use Rattle.uid.proofs.put_uid.Goals as goal
 

@@ -1,6 +1,5 @@
 -- `trimmed_end` meets its contract: one law for each way out. Assumes nothing.
 use Rattle.uid.proofs.PadLaws.{trimmed-none, trimmed-zero, trimmed-same}
-use borrow.Author.Rules.{rules}
 use native.Mathlib.Omega.{arith}
 use Rattle.uid.proofs.trimmed_end.Goals as goal
 

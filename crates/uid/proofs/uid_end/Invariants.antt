@@ -1,7 +1,6 @@
 -- `uid_end` meets its contract: one law for each way on or out of its loop. Assumes nothing.
 use Prim.Native.Nat.{◌-◌}
-use Rattle.uid.proofs.UidTurns.{Onward, onward-start, onward-none, onward-whole, onward-inside, onward-slash, onward-other, onward-go}
-use native.Mathlib.Omega.{arith}
+use Rattle.uid.proofs.UidTurns.{Onward}
 use Rattle.uid.proofs.uid_end.Given as goal
 
 abbrev pub invariant-loop-i : goal.invariant-loop-i

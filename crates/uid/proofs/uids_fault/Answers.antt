@@ -1,5 +1,5 @@
 -- `uids_fault` meets its contract: one law for each way before its loop, on in it or out of it. Assumes nothing.
-use Rattle.uid.proofs.FaultTurns.{fault-none, fault-odd, Judging, fault-start, fault-over, fault-bad, fault-long, fault-last, fault-inside, fault-go}
+use Rattle.uid.proofs.FaultTurns.{fault-none, fault-odd, fault-start, fault-over, fault-bad, fault-long, fault-last, fault-inside, fault-go}
 use native.Mathlib.Omega.{arith}
 use Rattle.uid.proofs.uids_fault.Goals as goal
 

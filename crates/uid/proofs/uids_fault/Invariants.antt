@@ -1,6 +1,5 @@
 -- `uids_fault` meets its contract: one law for each way before its loop, on in it or out of it. Assumes nothing.
-use Rattle.uid.proofs.FaultTurns.{fault-none, fault-odd, Judging, fault-start, fault-over, fault-bad, fault-long, fault-last, fault-inside, fault-go}
-use native.Mathlib.Omega.{arith}
+use Rattle.uid.proofs.FaultTurns.{Judging}
 use Rattle.uid.proofs.uids_fault.Given as goal
 
 abbrev pub invariant-loop-left : goal.invariant-loop-left

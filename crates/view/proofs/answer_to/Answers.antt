@@ -1,7 +1,6 @@
 -- `view::answer_to` meets its contract. Assumes nothing.
-use mathlib.Core.Path.{◌≡◌, refl, sym, ◌∙◌}
+use mathlib.Core.Path.{sym, ◌∙◌}
 use Rattle.view.specs.View.{view_of}
-use borrow.Author.Rules.{rules}
 use Rattle.view.proofs.answer_to.Goals as goal
 
 pub returns-in-At : goal.returns-in-At

@@ -1,7 +1,5 @@
 -- `view::met` meets its contract. Assumes nothing.
-use mathlib.Core.Path.{refl}
 use borrow.Author.Tests.{eq-eqb, ne_eqb}
-use borrow.Author.Rules.{rules}
 use Rattle.view.proofs.met.Goals as goal
 
 pub returns-then-tag-wanted : goal.returns-then-tag-wanted

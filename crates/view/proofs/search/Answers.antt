@@ -1,8 +1,6 @@
 -- `view::search` meets its contract. Assumes nothing.
-use mathlib.Core.Path.{◌≡◌, refl}
 use borrow.Author.Tests.{lt-ltb, le-ltb}
 use Rattle.view.specs.Search.{search_of}
-use borrow.Author.Rules.{rules}
 use Rattle.view.proofs.search.Goals as goal
 
 pub returns-then-s-gt-LONGEST : goal.returns-then-s-gt-LONGEST

@@ -1,8 +1,6 @@
 -- `view::seek` meets its contract: each way through the loop is a law of `proofs/SearchLaws.antt`. Assumes nothing.
-use Prim.Native.Nat.{◌-◌}
 use lib.ListN.{length}
-use Rattle.view.proofs.SearchLaws.{Seeking, start, stop-bad, stop-end, go-plain, stop-seq, go-seq, plain-lies, sequence-lies, items-end}
-use borrow.Author.Rules.{rules}
+use Rattle.view.proofs.SearchLaws.{start, stop-bad, stop-end, go-plain, stop-seq, go-seq, plain-lies, sequence-lies, items-end}
 use native.Mathlib.Omega.{arith}
 use Rattle.view.proofs.seek.Goals as goal
 

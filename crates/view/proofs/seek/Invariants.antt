@@ -1,9 +1,7 @@
 -- `view::seek` meets its contract: each way through the loop is a law of `proofs/SearchLaws.antt`. Assumes nothing.
 use Prim.Native.Nat.{◌-◌}
 use lib.ListN.{length}
-use Rattle.view.proofs.SearchLaws.{Seeking, start, stop-bad, stop-end, go-plain, stop-seq, go-seq, plain-lies, sequence-lies, items-end}
-use borrow.Author.Rules.{rules}
-use native.Mathlib.Omega.{arith}
+use Rattle.view.proofs.SearchLaws.{Seeking}
 use Rattle.view.proofs.seek.Given as goal
 
 abbrev pub invariant-loop-n : goal.invariant-loop-n

@@ -1,7 +1,6 @@
 -- `view::view` meets its contract. Assumes nothing.
-use mathlib.Core.Path.{◌≡◌, refl, sym, ◌∙◌}
+use mathlib.Core.Path.{refl, sym, ◌∙◌}
 use Rattle.basis.proofs.PartsLaws.{is-part}
-use borrow.Author.Rules.{rules}
 use Rattle.view.proofs.view.Goals as goal
 
 pub slice_bounds-result-start : goal.slice_bounds-result-start

@@ -1,14 +1,14 @@
 -- `vr::dummy_of` meets its contract: each arm by one computed test over its patterns, what is left by what no arm took.
 -- Assumes nothing.
-use mathlib.Core.Path.{◌≡◌, refl, sym}
-use mathlib.Core.Bool.{Bool, true, false}
+use mathlib.Core.Path.{◌≡◌, refl}
+use mathlib.Core.Bool.{true, false}
 use mathlib.Core.List.{List, [], ◌∷◌, ◌++◌, map}
 use lib.ListN.{replicate}
 use Prim.Native.Nat.{ℕ}
 use types.Run.{OneOf}
 use Rattle.basis.specs.Choice.{among}
 use Rattle.basis.proofs.ChoiceLaws.{arm, among-none, among-join, among-less, eqb-less}
-use Rattle.vr.specs.Names.{AE, AS, AT, CS, DA, DS, DT, FD, FL, IS, LO, LT, OB, OD, OF, OL, OV, OW, PN, SH, SL, SQ, SS, ST, SV, TM, UC, UI, UL, UN, UR, US, UT, UV}
+use Rattle.vr.specs.Names.{AE, AS, AT, CS, DA, DS, DT, FD, FL, IS, LO, LT, OB, OD, OF, OL, OV, OW, PN, SH, SL, SS, ST, SV, TM, UC, UL, UN, UR, US, UT, UV}
 use lib.ListN.{length}
 use Rattle.vr.specs.Vr.{dummy_of, in_room}
 use Rattle.vr.proofs.dummy_of.Goals as goal

@@ -1,8 +1,7 @@
 -- `vr::kind_of` meets its contract. Assumes nothing.
 use mathlib.Core.Path.{◌≡◌, sym, ◌∙◌}
-use Prim.Native.Nat.{ℕ, ◌-◌, ◌*◌, ◌/◌, ◌%◌, ◌^◌}
+use Prim.Native.Nat.{◌-◌, ◌*◌, ◌/◌, ◌%◌, ◌^◌}
 use native.Mathlib.Omega.{arith}
-use borrow.Author.Rules.{rules}
 use Rattle.vr.specs.Vr.{kind_of}
 use Rattle.vr.specs.Kinds.{kind_number}
 use Rattle.vr.proofs.KindsLaws.{kinds-at, kind_of-letters, number-short, number-long, number-sequence, number-unknown}

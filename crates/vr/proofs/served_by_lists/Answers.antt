@@ -1,14 +1,14 @@
 -- `vr::served_by_lists` meets its contract: each arm by one computed test over its patterns, what is left by what no arm took.
 -- Assumes nothing.
 use mathlib.Core.Path.{◌≡◌, refl, sym}
-use mathlib.Core.Bool.{Bool, true, false}
+use mathlib.Core.Bool.{true, false}
 use mathlib.Core.List.{List, [], ◌∷◌, ◌++◌, map}
 use lib.ListN.{replicate}
 use Prim.Native.Nat.{ℕ}
 use types.Run.{OneOf}
 use Rattle.basis.specs.Choice.{among}
-use Rattle.basis.proofs.ChoiceLaws.{arm, among-none, among-join, among-less, eqb-less}
-use Rattle.vr.specs.Names.{AE, AS, AT, CS, DA, DS, DT, FD, FL, IS, LO, LT, OB, OD, OF, OL, OV, OW, PN, SH, SL, SQ, SS, ST, SV, TM, UC, UI, UL, UN, UR, US, UT, UV}
+use Rattle.basis.proofs.ChoiceLaws.{arm, among-none, among-join, among-less}
+use Rattle.vr.specs.Names.{AE, AS, CS, DA, DS, DT, IS, LO, LT, PN, SH, ST, TM, UC, UR, UT}
 use Rattle.vr.specs.Vr.{served_by_lists, served}
 use Rattle.vr.proofs.served_by_lists.Goals as goal
 

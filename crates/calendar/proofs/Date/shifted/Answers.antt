@@ -3,7 +3,6 @@ use mathlib.Core.Path.{sym, ap, ◌∙◌}
 use mathlib.Core.Option.{some}
 use mir.Facts.{to_z-of_z}
 use Rattle.calendar.proofs.DatesLaws.{real-is, real-month, number-small, moved-in, moved-low, moved-high, moved-none}
-use borrow.Author.Rules.{rules}
 use native.Mathlib.Omega.{arith}
 use Rattle.calendar.proofs.Date.shifted.Goals as goal
 

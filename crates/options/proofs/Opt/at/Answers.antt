@@ -1,9 +1,8 @@
 -- `Opt::at` meets its contract: one law over the option for the six bits, one for the others. Assumes nothing.
-use mathlib.Core.Path.{◌≡◌, sym, ap, ◌∙◌}
+use mathlib.Core.Path.{sym, ap, ◌∙◌}
 use Rattle.options.specs.Options.{chosen_of}
 use Rattle.options.specs.declared.Opt.TheVariants.{FullDates, ModifiedDates, PatientCharacteristics, DeviceIdentity, RetainUids, InstitutionIdentity}
 use Rattle.options.proofs.OptionsLaws.{opt_at-bit, opt_at-past, past-five}
-use borrow.Author.Rules.{rules}
 use Rattle.options.proofs.Opt.at.Goals as goal
 
 pub returns-in-0 : goal.returns-in-0

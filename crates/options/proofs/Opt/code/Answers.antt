@@ -1,6 +1,5 @@
 -- `Opt::code` meets its contract, option by option. Assumes nothing.
 use mathlib.Core.Path.{refl}
-use borrow.Author.Rules.{rules}
 use Rattle.options.proofs.Opt.code.Goals as goal
 
 pub returns-in-FullDates : goal.returns-in-FullDates

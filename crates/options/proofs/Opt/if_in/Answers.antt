@@ -1,6 +1,5 @@
 -- `Opt::if_in` meets its contract. Assumes nothing.
 use mathlib.Core.Path.{refl, sym, ◌∙◌}
-use borrow.Author.Rules.{rules}
 use Rattle.options.proofs.Opt.if_in.Goals as goal
 
 pub returns-then-is_in : goal.returns-then-is_in

@@ -1,6 +1,5 @@
 -- `Opt::is_in` meets its contract, option by option. Assumes nothing.
 use mathlib.Core.Path.{refl}
-use borrow.Author.Rules.{rules}
 use Rattle.options.proofs.Opt.is_in.Goals as goal
 
 pub returns-in-FullDates : goal.returns-in-FullDates

@@ -1,5 +1,4 @@
 -- `Opt::put_meaning` meets its contract, option by option, by what `put` ensures. Assumes nothing.
-use borrow.Author.Rules.{rules}
 use Rattle.options.proofs.Opt.put_meaning.Goals as goal
 
 pub put-requires : goal.put-requires

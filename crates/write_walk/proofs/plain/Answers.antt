@@ -1,0 +1,23 @@
+-- `write_walk::plain` meets its contract: what the top level gains, and then the element. Assumes nothing.
+use mathlib.Core.Path.{ap}
+use Prim.Native.Nat.{◌+◌}
+use Rattle.treatment.specs.Fates.{is_top}
+use Rattle.write_markers.proofs.PartLaws.{gained-length}
+use Rattle.write_state.specs.Wrote.{met}
+use Rattle.write_state.specs.declared.Progress.{Progress}
+use Rattle.write_walk.proofs.StepLaws.{plain-act}
+use borrow.Author.Rules.{rules}
+use native.Mathlib.Omega.{arith}
+use Rattle.write_walk.proofs.plain.Goals as goal
+
+pub act-requires : goal.act-requires
+act-requires c =
+    let short = gained-length (is_top c.args.at.level) c.args.n.options c.args.at.low (c.args.e.tag + 1) in (
+      c.requires.2,
+      c.requires.3,
+      record { root_fits = c.requires.4.root_fits; slots_fit = omega (arith, ap (λ v. v.used) c.gain_before-t.ensures.0, c.requires.4.slots_fit); room = omega (arith, short, ap (λ v. v.pos) c.gain_before-t.ensures.0, c.requires.4.room) },
+      record { countable = omega (arith, ap met c.gain_before-t.ensures.0, c.requires.5.countable) },
+    )
+
+pub returns : goal.returns
+returns c = plain-act c.args.at.low c.fate_of-fate.result c.gain_before-t.ensures (gained-length _ _ _ _) c.fate_of-fate.ensures c.act.ensures
