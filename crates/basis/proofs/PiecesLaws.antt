@@ -2,7 +2,7 @@
 --     Free c v, FreeAll c us     the byte c does not stand in v; nor in any of us
 --     free-append                nor in two lists, one after the other
 --     free-drop                  nor in the rest of a list
---     free-get_or                  nor at any place of it
+--     free-get_or                nor at any place of it
 --     pieces-some                there is a piece, also of nothing
 --     pieces-one                 what has no backslash is one piece
 --     pieces-cut                 and so is what stands before the first backslash

@@ -1,5 +1,5 @@
 -- Laws of `specs/Text.antt`. No contract cites this file. Assumes nothing.
---     is_digit-range, is_digit-yes, is_digit-low, is_digit-high     a digit is 30 to 39 hex
+--     is_digit-range, is_digit-yes, is_digit-low, is_digit-high    a digit is 30 to 39 hex
 use mathlib.Core.Path.{◌≡◌, refl}
 use mathlib.Core.Bool.{true, false, and-eq-true_iff}
 use Prim.Native.Nat.{ℕ, ◌≤◌, ◌<◌}

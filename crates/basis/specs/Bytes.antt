@@ -3,7 +3,7 @@
 --     le2 s i, le4 s i     the number that the two, or four, bytes at i spell
 --     low2 n, low4 n       the two, or four, lowest bytes of n
 --     AllBytes s           each number of s is a byte
---     has_bit n k           a test: the bit k of the number n is 1, the lowest being the bit 0
+--     has_bit n k          a test: the bit k of the number n is 1, the lowest being the bit 0
 use Rattle.std.specs.Prelude.{Bool, List, [], ◌∷◌, ℕ, ◌+◌, ◌-◌, ◌*◌, ◌/◌, ◌%◌, ◌^◌, ◌<◌, eqb, take, drop, get_or}
 
 abbrev pub part : List ℕ → ℕ → ℕ → List ℕ

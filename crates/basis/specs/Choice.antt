@@ -2,7 +2,7 @@
 --     pick b x y                   x where the test b holds, else y
 --     fork b (λ _. x) (λ _. y)     the same where x or y goes on by recursion: only the side that is taken is worked out
 --     then a (λ x. b)              b of what was found, or nothing where nothing was found
---     is_some o, is_none o           tests: something was found, or nothing
+--     is_some o, is_none o         tests: something was found, or nothing
 --     every p xs                   the test p holds of each of xs
 --     among n xs                   n is one of xs
 use Rattle.std.specs.Prelude.{Bool, true, false, ◌&&◌, ◌||◌, List, [], ◌∷◌, ℕ, eqb}

@@ -1,6 +1,6 @@
 -- Laws of `specs/Spans.antt`, for spans of any lengths: the years and the months are two uses of them. Assumes nothing.
---     before-one, before-mono    one span more; more spans have more days
---     in_span-below               the span of a day that the first f spans have is one of them
+--     before-one, before-mono      one span more; more spans have more days
+--     in_span-below                the span of a day that the first f spans have is one of them
 --     span_at-found, span_at-is    what `span_at` finds has the day, and nothing else does
 --     span_at-first, span_at-past  it finds the first span where that has the day, and the one after all where none has it
 use mathlib.Core.Path.{◌≡◌, refl, sym, ap, ◌∙◌}

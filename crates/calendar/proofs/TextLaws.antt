@@ -4,10 +4,10 @@
 --     NoDigit c, text-free    the byte c is no digit; it is in no date's text
 --     right-long              a piece of the right length has room for a date
 --     moved-date-is           what `moved_date` says; `is-moved-date` the other way
---     length-shifted_piece     a shifted piece is as long as it was
---     shifted_piece-free       it has no byte that it had not, but digits; `shifted_piece-tight`: in a DA value it has digits alone
---     shifted_piece-back       a shift and the opposite one give the piece again
---     shifted_piece-zero       a shift by 0 leaves it as it is
+--     length-shifted_piece    a shifted piece is as long as it was
+--     shifted_piece-free      it has no byte that it had not, but digits; `shifted_piece-tight`: in a DA value it has digits alone
+--     shifted_piece-back      a shift and the opposite one give the piece again
+--     shifted_piece-zero      a shift by 0 leaves it as it is
 use mathlib.Core.Path.{◌≡◌, refl, sym, ap, ◌∙◌, subst}
 use mathlib.Core.Bool.{Bool, true, false, ◌&&◌, false≢true}
 use mathlib.Core.Option.{Option, none, some, none-ne-some, some-injective}

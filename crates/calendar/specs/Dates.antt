@@ -1,15 +1,15 @@
 -- The Gregorian calendar and a date moved by whole days: document 01, "UIDs, dates, lists", 2nd paragraph, and refusal 12. The
 -- calendar's rule holds for every year, also before it was first used (reading D5). Assumes nothing.
 --     first_year, last_year    the years that a date may have
---     leap y                 the year y has a 29th of February
---     year_len y              the days of the year y
---     month_len y m           the days of the month m, from 1, of the year y; 0 where there is no such month
---     day_number d            the day d as a number; the first day of the year 0 is 1
---     date_of n               the date of the day with the number n
---     real d                 d is a day of the calendar, and of a year that a date may have
---     only_real d             d, or nothing where it is not real
---     later n z              z days after the day with the number n; 0, which no day has, where there are not so many before it
---     moved d z              the date z days after d, or nothing: d is not real, or the date that it goes to is not
+--     leap y                   the year y has a 29th of February
+--     year_len y               the days of the year y
+--     month_len y m            the days of the month m, from 1, of the year y; 0 where there is no such month
+--     day_number d             the day d as a number; the first day of the year 0 is 1
+--     date_of n                the date of the day with the number n
+--     real d                   d is a day of the calendar, and of a year that a date may have
+--     only_real d              d, or nothing where it is not real
+--     later n z                z days after the day with the number n; 0, which no day has, where there are not so many before it
+--     moved d z                the date z days after d, or nothing: d is not real, or the date that it goes to is not
 --     date_in r, refusal_in r  what each answer of `Date::shifted` says: the moved date, or document 01's refusal 12
 use Rattle.std.specs.Prelude.{Bool, true, false, ◌&&◌, List, [], ◌∷◌, ℕ, ◌+◌, ◌-◌, ◌%◌, eqb, leb, ℤ, pos, negsuc, get_or}
 use Rattle.std.proofs.Math.Option.{Option, none, some}

@@ -1,8 +1,8 @@
 -- Spans of days, one after another: the years are such, and the months of a year. The span k has len k days. Assumes nothing.
---     before len k       the days of the spans before the span k
---     InSpan len n k     the n-th day, counted from 1 at the span 0, is a day of the span k
+--     before len k        the days of the spans before the span k
+--     InSpan len n k      the n-th day, counted from 1 at the span 0, is a day of the span k
 --     span_at len f k n   the span that has the n-th day, counted from 1 at the span k, and which day of it that is; f spans are
---                        tried, and where none of them has it, the one after them is named
+--                         tried, and where none of them has it, the one after them is named
 use Rattle.std.specs.Prelude.{ℕ, zero, suc, ◌+◌, ◌-◌, ◌≤◌, ◌<◌, leb}
 use Rattle.basis.specs.Choice.{fork}
 

@@ -1,14 +1,14 @@
 -- Dates as text, and a piece of a value with its date moved: document 01, "UIDs, dates, lists", 2nd paragraph, and refusal 12. `da` says
 -- whether the piece stands in a DA value or in a DT value. Assumes nothing.
---     date_length             how many characters a date has
---     two_digits x y          the number that two characters spell, or nothing where they are not digits
---     date_at s a             the date that the characters of s from the place a on spell, real or not, or nothing
+--     date_length              how many characters a date has
+--     two_digits x y           the number that two characters spell, or nothing where they are not digits
+--     date_at s a              the date that the characters of s from the place a on spell, real or not, or nothing
 --     two_text n, date_text d  a number below 100 in two digits, and a date in eight
---     right_length da n       a piece of n characters is a date (DA), or has room for one (DT)
---     moved_date da days u    the date of the piece u, moved, or nothing: u is malformed, or its date can't be moved
---     with_date u d           the piece u with the date d for its own; u itself where there is none
+--     right_length da n        a piece of n characters is a date (DA), or has room for one (DT)
+--     moved_date da days u     the date of the piece u, moved, or nothing: u is malformed, or its date can't be moved
+--     with_date u d            the piece u with the date d for its own; u itself where there is none
 --     shifted_piece da days u the piece u with its date moved; u itself where it has none that can be moved
---     number_in r             what each answer of `two_digits` says
+--     number_in r              what each answer of `two_digits` says
 use Rattle.std.specs.Prelude.{Bool, ◌&&◌, List, [], ◌∷◌, ◌++◌, ℕ, ◌+◌, ◌-◌, ◌*◌, ◌/◌, ◌%◌, eqb, leb, ℤ, length, drop, get_or}
 use Rattle.std.proofs.Math.Option.{Option, none, some}
 use Rattle.basis.specs.Choice.{pick, fork, then}

@@ -1,7 +1,7 @@
 -- The values of DA and DT elements, shifted: document 01, "UIDs, dates, lists", 2nd paragraph, and refusal 12. `da` says which of the two
 -- VRs it is. Assumes nothing.
---     space                     the character that pads a DA value
---     padded da v               the value v ends with such a space
+--     space                      the character that pads a DA value
+--     padded da v                the value v ends with such a space
 --     dates_end da v             where the dates of the value v end: before that space, or at its end
 --     date_pieces da v           the pieces of the value v, without that space
 --     shifted_text da days v     the value v with each of its dates moved; a piece that has none that can be moved stays as it is

@@ -1,5 +1,5 @@
 -- Laws of `specs/Faults.antt`. No contract cites this file. Assumes nothing.
---     Eleven x             a fault among the values is 11 or 12
+--     Eleven x              a fault among the values is 11 or 12
 --     first_fault-number    so it is with the first of every data set
 use mathlib.Core.Path.{◌≡◌, refl}
 use mathlib.Core.Logic.{◌⊎◌, inl, inr}

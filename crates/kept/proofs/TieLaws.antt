@@ -1,7 +1,7 @@
 -- The table's bits are the options' bits: `table` knows an option by its bit alone, and counts them. No contract cites this file.
 -- Assumes nothing.
---     modified_dates-tie     the bit that the table gives Modified Dates
---     option_count-tie       how many options there are
+--     modified_dates-tie    the bit that the table gives Modified Dates
+--     option_count-tie      how many options there are
 --     chosen-tie            an option is chosen for the table where it is for its code and meaning
 use mathlib.Core.Path.{◌≡◌, refl}
 use Prim.Native.Nat.{ℕ}

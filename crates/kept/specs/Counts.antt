@@ -1,10 +1,10 @@
 -- The four counts, on the input alone: document 01, "Kept content and the four counts", 2nd paragraph; readings K11 and K12.
 -- Laws: `proofs/CountsLaws.antt`. Assumes nothing.
---     Counts                  kept, replaced, renamed, removed
---     one φ                   the count of one element of this fate
---     plus a b                both together
+--     Counts                   kept, replaced, renamed, removed
+--     one φ                    the count of one element of this fate
+--     plus a b                 both together
 --     counts_of es s level     those of the elements es of a level, with the items that are walked into
---     total c                 the four together
+--     total c                  the four together
 --     elements_met es s level  the number of elements of a level, with those of the items that are walked into
 use Rattle.std.specs.Prelude.{ℕ, ◌+◌}
 use Rattle.basis.specs.Choice.{pick}

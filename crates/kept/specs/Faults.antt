@@ -1,6 +1,6 @@
 -- The first fault among the values, front to back: document 01, refusals 11 and 12, and their order; readings W9, R4, R5, D1, D6.
 -- Nothing inside what is removed, emptied or dummied is judged. Laws: `proofs/FaultsLaws.antt`. Assumes nothing.
---     Fault                   a refusal's number and its offset
+--     Fault                    a refusal's number and its offset
 --     value_fault s φ vr v     the number of the fault of an element with this fate and value; 0 where there is none
 --     first_fault es s level   the first fault of the elements es of a level, with the items that are walked into
 use Rattle.std.specs.Prelude.{List, ℕ, zero, suc, eqb}

@@ -1,11 +1,11 @@
 -- What stands in the place of a replaced value: document 01, "What each action writes", the lines for Z and D and the paragraph on
 -- list values and dummies; readings W1 to W3, W10 to W13. It hangs on the settings, tag and VR alone. Laws: `proofs/FillersLaws.antt`.
 -- Assumes nothing.
---     spaced t              t, with one space where its length would be odd
---     listed s tag vr       the list value for the tag, if lists serve the VR and one has it: the study's first
+--     spaced t               t, with one space where its length would be odd
+--     listed s tag vr        the list value for the tag, if lists serve the VR and one has it: the study's first
 --     emptied_as s tag vr    what an element holds after Z
 --     dummied_as s tag vr    what it holds after D
---     filler s φ tag vr     what it holds after the fate φ
+--     filler s φ tag vr      what it holds after the fate φ
 use Rattle.std.specs.Prelude.{List, [], ◌∷◌, ◌++◌, ℕ, ◌%◌, eqb, length}
 use Rattle.std.proofs.Math.Option.{Option, none, some}
 use Rattle.basis.specs.Choice.{pick}

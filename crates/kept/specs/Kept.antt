@@ -1,6 +1,6 @@
 -- The kept content of a data set: document 01, "Kept content and the four counts", 1st paragraph; readings K1 to K6.
 -- Laws: `proofs/KeptLaws.antt`. Assumes nothing.
---     Uid                  a UID, as its characters
+--     Uid                   a UID, as its characters
 --     held_uids v           the UIDs of a value that obeys its rule
 --     kept_of es s level    the kept content of the elements es, which stand on this level, under the settings s
 use Rattle.std.specs.Prelude.{List, [], ℕ}

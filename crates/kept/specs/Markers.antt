@@ -1,9 +1,9 @@
 -- What the top level gains: document 01, "What each action writes", last paragraph; readings W13, W15 to W17. Laws: `proofs/MarkersLaws.antt`.
 -- Assumes nothing.
---     code_item code meaning     an item of (0012,0064)
+--     code_item code meaning    an item of (0012,0064)
 --     codes number              those of the profile and of each chosen option, by rising code
 --     insert tag vr f d         d with an element more, where its tag belongs
---     with_markers number d      the top level d with the three elements that it gains
+--     with_markers number d     the top level d with the three elements that it gains
 use Rattle.std.specs.Prelude.{List, [], ◌∷◌, ℕ, ltb}
 use Rattle.basis.specs.Choice.{fork}
 use Rattle.basis.specs.Text.{ascii}

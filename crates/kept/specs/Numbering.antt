@@ -1,6 +1,6 @@
 -- Numbers for the names of kept content, in output order: document 01, "UIDs, dates, lists", 5th to 7th sentence. `known` are the
 -- names that have a number already; `same` tells whether two names are one. Laws: `proofs/NumberingLaws.antt`. Assumes nothing.
---     numbered same known c       the content c, each name its number
+--     numbered same known c        the content c, each name its number
 --     numbered_all same known cs   the contents of a batch, the names handed on from data set to data set
 use Rattle.std.specs.Prelude.{List, [], ◌∷◌, ℕ}
 use Rattle.ledger.specs.FirstMet.{learns, numbers}

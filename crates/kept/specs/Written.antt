@@ -1,8 +1,8 @@
 -- What is written of kept content once its names are numbers: document 01, "What each action writes". Laws: `proofs/WrittenLaws.antt`.
 -- Assumes nothing.
---     shifted_as s vr v        a DA or DT value, shifted
---     value_as s φ vr v        what is written of a value that is shown
---     written_of c s level     the elements that are written of the content c of a level
+--     shifted_as s vr v       a DA or DT value, shifted
+--     value_as s φ vr v       what is written of a value that is shown
+--     written_of c s level    the elements that are written of the content c of a level
 --     export s c              the data set that is written: the content of the top level, and what that level gains
 --     written s c             its bytes
 use Rattle.std.specs.Prelude.{List, ℕ, eqb}

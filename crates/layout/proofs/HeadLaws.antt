@@ -1,8 +1,8 @@
 -- Laws of `specs/Heads.antt`. No contract cites this file. Assumes nothing.
 --     length_fault-none    a length without fault is even and stays within its container
 --     length_fault-number  a fault's number is one of document 01's
---     vrHead-..           the rest of an element's head, by the kind of its VR
---     apart               eight bytes before its end a container does not end
+--     vrHead-..            the rest of an element's head, by the kind of its VR
+--     apart                eight bytes before its end a container does not end
 use mathlib.Core.Path.{◌≡◌, refl, sym, ◌∙◌}
 use mathlib.Core.Bool.{Bool, true, false}
 use mathlib.Core.List.{List}

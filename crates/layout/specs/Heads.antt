@@ -2,15 +2,15 @@
 -- Each head makes its tests in that order. The answers are the code's own enums, `Head` and `Spot` of `src/lib.rt`, which says what each
 -- case holds; `Bad n` (at an element) and `Wrong n` (at an item) are a fault with its refusal's number.
 --     tag_at s at                          the tag of four bytes: group × 65,536 + element
---     item_tag, item_end, sequence_end       (FFFE,E000), (FFFE,E00D), (FFFE,E0DD)
---     undefined                           the length FFFFFFFF
---     allowed tag                         an element may have this tag
+--     item_tag, item_end, sequence_end     (FFFE,E000), (FFFE,E00D), (FFFE,E0DD)
+--     undefined                            the length FFFFFFFF
+--     allowed tag                          an element may have this tag
 --     length_fault n left                  the fault of a stated length n with left bytes to the container's end; 0 where there is none
 --     body_head e s at end tag             an element's head after its tag: the one definition that the encoding decides
 --     element_head x at end unstated low   where an element may stand: in a container that ends at `end`, or, where its length is not
---                                         stated, at its end mark before that; `low` is the least tag that may stand here
+--                                          stated, at its end mark before that; `low` is the least tag that may stand here
 --     item_head s at end unstated depth    where an item may stand: likewise, with `depth` more items allowed to nest; an item's tag and
---                                         length are the same in every encoding, so this is told of bytes
+--                                          length are the same in every encoding, so this is told of bytes
 -- Stricter than PS3.5: UN and OB of undefined length are refused (F18). Laws: `proofs/HeadLaws.antt`, `proofs/LiesLaws.antt`. Assumes nothing.
 use Rattle.std.specs.Prelude.{Bool, true, false, not, ◌&&◌, List, ℕ, ◌+◌, ◌-◌, ◌*◌, ◌%◌, eqb, ltb, leb}
 use Rattle.basis.specs.Choice.{pick}

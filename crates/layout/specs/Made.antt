@@ -1,5 +1,5 @@
 -- A well-made data set: one that document 01's layout can hold. What `read` finds is well-made, and what is well-made reads back.
---     lengths_below vr    the lengths that the header of the VR can state are below this
+--     lengths_below vr   the lengths that the header of the VR can state are below this
 --     Made depth low d   d's tags are allowed and rise from low on, its values have even lengths that fit, SQ alone holds items, and
 --                        its items nest at most depth deep
 -- Laws: `proofs/MadeLaws.antt`. Assumes nothing.

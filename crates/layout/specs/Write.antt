@@ -1,10 +1,10 @@
 -- The bytes of a data set as the station writes it: document 01, Layout, 1st and 2nd points, and "What each action writes", the
 -- paragraph on sequences: one with items has undefined length, and so have its items, each with its end mark; one without has length 0.
 --     tag_bytes tag, mark tag n    a tag; an item or end mark with its length n of four bytes
---     short_header, long_header     a header with a length of two bytes; with two zero bytes and a length of four
---     header tag vr n             the header of an element with a value of n bytes: short or long, by the VR's kind (an unknown VR is never written)
---     opened k, closed k          k with an item's tag, or its end mark, in front
---     put.. k                     the bytes of the thing, followed by k
+--     short_header, long_header    a header with a length of two bytes; with two zero bytes and a length of four
+--     header tag vr n              the header of an element with a value of n bytes: short or long, by the VR's kind (an unknown VR is never written)
+--     opened k, closed k           k with an item's tag, or its end mark, in front
+--     put.. k                      the bytes of the thing, followed by k
 --     bytes_of d                   the bytes of the data set d
 -- Headers are made anew from tag, VR and length. Laws: `proofs/MarkLaws.antt`, `proofs/RoundLaws.antt`. Assumes nothing.
 use Rattle.std.specs.Prelude.{List, [], ◌∷◌, ◌++◌, ℕ, ◌/◌, length}

@@ -2,7 +2,7 @@
 --     Answered                                the answer and the ledger are those that were defined
 --     answer-old, answer-new, answer-full     the ways out of `slot_for`: the slot is in use; it is the next; no slot is left
 --     Slotted, SlotIs, SlotFits               what a caller needs of an answer and of the ledger afterwards, by cases
---     slot_for-is                              and has
+--     slot_for-is                             and has
 --     cleared-flat                            slots and then zeros: the ledger after `zero_rest`
 use mathlib.Core.Path.{◌≡◌, refl, sym, ap, ap₂, ◌∙◌, subst}
 use mathlib.Core.List.{List, [], ◌∷◌, ◌++◌, append-nil}

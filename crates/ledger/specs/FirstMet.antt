@@ -1,12 +1,12 @@
 -- UIDs and the numbers that they get by first appearance: document 01, "UIDs, dates, lists", 5th and 7th sentence. X stands for UIDs:
 -- the UID itself in kept content, its slot in lent bytes; `same` tells whether two are one, and `proofs/SlotLaws.antt` says that the numbers
 -- of both agree. Laws: `proofs/FirstMetLaws.antt`, `proofs/RenameLaws.antt`. Assumes nothing.
---     first_at same l u      where u stands first in l, counted from 0; the length of l where it does not stand there
---     number_of same l u     the number of u: counted from 1
+--     first_at same l u     where u stands first in l, counted from 0; the length of l where it does not stand there
+--     number_of same l u    the number of u: counted from 1
 --     learn same l u        l, and after it u where l does not have it
 --     learns same l us      l after all of us were met, one after the other
 --     numbers same l us     the numbers that us get as they are met, one after the other, from l on
---     same_uid x y           two UIDs, or two slots, as bytes, are one or are not; both_same, of two that begin with a byte each
+--     same_uid x y          two UIDs, or two slots, as bytes, are one or are not; both_same, of two that begin with a byte each
 use Rattle.std.specs.Prelude.{◌≡◌, refl, ℕ, zero, suc}
 use Rattle.std.proofs.Common.{ap₂}
 use Rattle.std.proofs.Math.Logic.{ite}

@@ -1,9 +1,9 @@
 -- What the ledger's routines answer and leave: document 01, "UIDs, dates, lists", 5th sentence, in bytes, and refusal 13.
 -- Laws: `proofs/SlotForLaws.antt`. Assumes nothing.
 --     holds d                 whether the decision d is yes
---     slots_with l used x      the slots in use, with x among them, once it was asked for, of a ledger l with `used` slots in use
---     slot_for l used x        the number of the slot x and the new count; `Full` where l has no slot left for it
---     ledger_for l used x      the ledger afterwards: the slots in use from its start on, all else as it was
+--     slots_with l used x     the slots in use, with x among them, once it was asked for, of a ledger l with `used` slots in use
+--     slot_for l used x       the number of the slot x and the new count; `Full` where l has no slot left for it
+--     ledger_for l used x     the ledger afterwards: the slots in use from its start on, all else as it was
 use Rattle.std.specs.Prelude.{Bool, true, false, List, ℕ, leb, length}
 use Rattle.basis.specs.Choice.{pick}
 use Rattle.buffer.specs.Buffer.{laid}

@@ -1,9 +1,9 @@
 -- The ledger as lent bytes: document 01, "UIDs, dates, lists", 3rd and 4th sentence, and refusal 3. Laws: `proofs/SlotLaws.antt`. Assumes nothing.
---     slot_size        the bytes of a slot: 64
---     most_slots       the most slots of a ledger: 1,024
---     slots_of l       how many slots the ledger l has
---     slot_of u        the slot that holds the UID u
---     slots_in l n     the first n slots of l
+--     slot_size       the bytes of a slot: 64
+--     most_slots      the most slots of a ledger: 1,024
+--     slots_of l      how many slots the ledger l has
+--     slot_of u       the slot that holds the UID u
+--     slots_in l n    the first n slots of l
 --     flat ks         the bytes of the slots ks, one after the other
 -- What lies past the slots, a ragged end or slots past the most, belongs to the rest that is zeroed (U9).
 use Rattle.std.specs.Prelude.{List, [], ◌∷◌, ◌++◌, ℕ, zero, suc, ◌-◌, ◌/◌, min, length, take, drop, replicate}

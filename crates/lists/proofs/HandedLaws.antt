@@ -1,6 +1,6 @@
 -- Laws of `specs/Handed.antt`: what an answer of the code says of what it stands for. No contract cites this file. Assumes nothing.
---     num_of-got, num_of-bad             a number that was read; none
---     found_of-at, found_of-nothing      an entry that was found; none
+--     num_of-got, num_of-bad           a number that was read; none
+--     found_of-at, found_of-nothing    an entry that was found; none
 use mathlib.Core.Path.{◌≡◌, refl, ap, ap₂}
 use mathlib.Core.Option.{Option, none, some}
 use Prim.Native.Nat.{ℕ}

@@ -1,6 +1,6 @@
 -- What the code's answers stand for. Assumes nothing.
---     num_of x       a number and the place past it, or that there is none
---     found_of x     an entry, or that there is none
+--     num_of x      a number and the place past it, or that there is none
+--     found_of x    an entry, or that there is none
 use Rattle.std.proofs.Math.Option.{Option, none, some}
 use Rattle.std.specs.Prelude.{ℕ}
 use Rattle.lists.specs.declared.Entry.{Entry}

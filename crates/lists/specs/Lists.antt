@@ -1,13 +1,13 @@
 -- The rule of a replacement list: document 01, "UIDs, dates, lists", third paragraph; refusal 4; readings L1 to L5. The contract
 -- of `list_ok` cites `list_ok`. Laws: `proofs/ListsLaws.antt`. Assumes nothing.
---     most_tag, most_entries, most_value     the largest tag, the most entries of a list, the most bytes of a value
---     Entry                               an entry that was read: its tag, and the places from and to between which its value stands
---     entry_at s at                        the entry that begins at the place `at` of s; none where a number or the value is not right or not whole
---     entry_value s e                      the bytes of the value of e
---     printable c                         a character that a value may hold
---     entries_from left s at low           the entries of s from the place `at` to its end, at most `left` of them, of tags from low on; else none
---     entries s                           all entries of s, in order; none where s breaks the rule
---     list_ok s                            whether s keeps the rule
+--     most_tag, most_entries, most_value    the largest tag, the most entries of a list, the most bytes of a value
+--     Entry                                 an entry that was read: its tag, and the places from and to between which its value stands
+--     entry_at s at                         the entry that begins at the place `at` of s; none where a number or the value is not right or not whole
+--     entry_value s e                       the bytes of the value of e
+--     printable c                           a character that a value may hold
+--     entries_from left s at low            the entries of s from the place `at` to its end, at most `left` of them, of tags from low on; else none
+--     entries s                             all entries of s, in order; none where s breaks the rule
+--     list_ok s                             whether s keeps the rule
 use Rattle.std.specs.Prelude.{Bool, ◌&&◌, not, List, [], ◌∷◌, ℕ, zero, suc, ◌+◌, eqb, leb, length}
 use Rattle.std.proofs.Math.Option.{Option, none, some}
 use Rattle.basis.specs.Bytes.{part}

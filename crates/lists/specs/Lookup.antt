@@ -1,12 +1,12 @@
 -- What is asked of the two lists, and what is shown: document 01, "What each action writes", the paragraph on list values, 2nd
 -- sentence; reading W12. The contract of `lookup` cites `Shown` and `asked`. Laws: `proofs/LookupLaws.antt`. Assumes nothing.
---     seek_from left s at t      the first of at most `left` entries of s, from the place `at` on, whose tag is t, where those before it have lesser ones
---     entry_of s t               the entry of s for the tag t, if there is one
---     entry_for es t             the first of the entries es whose tag is t
---     value_for s t              the bytes of the value for t in the list s
---     study_first x y            x, or y where there is none
+--     seek_from left s at t     the first of at most `left` entries of s, from the place `at` on, whose tag is t, where those before it have lesser ones
+--     entry_of s t              the entry of s for the tag t, if there is one
+--     entry_for es t            the first of the entries es whose tag is t
+--     value_for s t             the bytes of the value for t in the list s
+--     study_first x y           x, or y where there is none
 --     asked study site t        the value for the tag t: the study's, else the site's, else none
---     bytes_or x                 the bytes that were found, or no bytes
+--     bytes_or x                the bytes that were found, or no bytes
 --     Shown x y r study site    r is the value of the entry x of the study's list, else of the entry y of the site's, else an empty part of it
 -- Of a list that keeps the rule, `entry_of` is the entry of `entries` for that tag (`entry_of-entry`); other bytes it reads as far as they are entries.
 use Rattle.std.specs.Prelude.{List, [], ◌∷◌, ℕ, zero, suc, eqb, ltb}

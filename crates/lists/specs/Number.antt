@@ -2,9 +2,9 @@
 -- `number_at`. Laws: `proofs/NumberLaws.antt`. Assumes nothing.
 --     onto b r                   the number whose first group is b, where r is the number that the groups after it spell, and its bytes;
 --                                none where those groups are a zero: one group too many
---     seven_bit s                 the number at the front of s, and how many bytes it takes; none where s ends before its last group
+--     seven_bit s                the number at the front of s, and how many bytes it takes; none where s ends before its last group
 --     held low high at r         the number r that begins at the place `at` and the place past it, where it is one of low to high
---     number_at low high s at     the number at the place `at` of s, where it is one of low to high, and the place past it
+--     number_at low high s at    the number at the place `at` of s, where it is one of low to high, and the place past it
 use Rattle.std.specs.Prelude.{◌&&◌, List, [], ◌∷◌, ℕ, ◌+◌, ◌*◌, ◌%◌, eqb, leb, ltb, drop}
 use Rattle.std.proofs.Math.Option.{Option, none, some}
 use Rattle.basis.specs.Choice.{pick, fork, then}

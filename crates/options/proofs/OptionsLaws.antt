@@ -1,13 +1,13 @@
 -- Laws of `specs/Options.antt`. No contract cites this file. Assumes nothing.
---     options-bit                               each option stands at its bit
---     all p os, options-all                     a test that computes over the six holds of each option
---     code_of-length, meaning_of-length           a code value is six bytes, a meaning 1 to 64
---     code_of-digits, meaning_of-printable        a code value is digits; a meaning is characters 20 to 7E hex, no backslash
---     rising low xs, code_number o               xs rises from low on; the number that a code value spells
---     chosen-rising                             the chosen options stand by rising code (W17)
---     opt_at-bit, past-five, opt_at-past          the option of a bit; a bit that is none of the six
+--     options-bit                                  each option stands at its bit
+--     all p os, options-all                        a test that computes over the six holds of each option
+--     code_of-length, meaning_of-length            a code value is six bytes, a meaning 1 to 64
+--     code_of-digits, meaning_of-printable         a code value is digits; a meaning is characters 20 to 7E hex, no backslash
+--     rising low xs, code_number o                 xs rises from low on; the number that a code value spells
+--     chosen-rising                                the chosen options stand by rising code (W17)
+--     opt_at-bit, past-five, opt_at-past           the option of a bit; a bit that is none of the six
 --     chosen_in-yes, chosen_in-no, chosen_in-end   the chosen options from a bit on, by what `Opt::at` answers: for a loop over the bits
---     chosen_of-yes, chosen_of-no                 what that answer says
+--     chosen_of-yes, chosen_of-no                  what that answer says
 use mathlib.Core.Path.{◌≡◌, refl, sym, ap}
 use mathlib.Core.Bool.{Bool, true, false, ◌&&◌, not, false≢true}
 use mathlib.Core.List.{List, [], ◌∷◌, map}

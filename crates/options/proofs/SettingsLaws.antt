@@ -1,6 +1,6 @@
 -- Laws of `specs/Settings.antt`. No contract cites this file. Assumes nothing.
---     settings_fault-number, -dates, -shift, -zero      what settings that are not refused are, one for each condition of refusal 1
---     date_word-length                                  the word has 1 to 10 bytes
+--     settings_fault-number, -dates, -shift, -zero     what settings that are not refused are, one for each condition of refusal 1
+--     date_word-length                                 the word has 1 to 10 bytes
 use mathlib.Core.Path.{◌≡◌, refl, sym, ap, ◌∙◌}
 use mathlib.Core.Bool.{Bool, true, false, ◌&&◌, ◌||◌, not, true≢false}
 use Prim.Native.Nat.{ℕ, ◌≤◌}

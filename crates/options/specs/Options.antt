@@ -1,12 +1,12 @@
 -- The six options: document 01, "Which action an element gets", last paragraph; readings W16 and W17. Code values and meanings are
 -- those of document 001, CID 7050 De-identification Method. Laws: `proofs/OptionsLaws.antt`. Assumes nothing.
---     options                     the options by bit, which is by rising code
+--     options                      the options by bit, which is by rising code
 --     bit_of o                     the bit of the option number that stands for o
---     code_of o, meaning_of o       its code value and its meaning
---     basic_code, basic_meaning     those of the basic profile itself
+--     code_of o, meaning_of o      its code value and its meaning
+--     basic_code, basic_meaning    those of the basic profile itself
 --     is_chosen number o           whether the option number has the bit of o
 --     chosen_in number os          those of the options os that the option number has
---     chosen number               all options that it has, by rising code
+--     chosen number                all options that it has, by rising code
 --     opt_at number bit            the option of that bit, where it is one and the option number has it
 --     chosen_of x                  what the answer of the code stands for
 use Rattle.std.specs.Prelude.{Bool, List, [], ◌∷◌, ℕ}

@@ -1,9 +1,9 @@
 -- The judgement of option number and shift: document 01, "When the station says no", No. 1; readings R6 and R10. And the word that
 -- says what became of dates. Laws: `proofs/SettingsLaws.antt`. Assumes nothing.
---     most_number, most_shift           the largest option number; the most days of a shift, either way
---     settings_fault number shift      whether one of the four conditions of refusal 1 holds
---     options_ok number shift          whether none does
---     date_word number                 the value of (0028,0303)
+--     most_number, most_shift         the largest option number; the most days of a shift, either way
+--     settings_fault number shift     whether one of the four conditions of refusal 1 holds
+--     options_ok number shift         whether none does
+--     date_word number                the value of (0028,0303)
 use Rattle.std.specs.Prelude.{Bool, ◌&&◌, ◌||◌, not, List, ℕ, eqb, ltb, ℤ, nat_abs}
 use Rattle.basis.specs.Choice.{pick}
 use Rattle.basis.specs.Text.{ascii}

@@ -1,9 +1,9 @@
 -- What a run is handed, and what follows from it where the data set has its shape: document 01, "What the station takes and hands
 -- back". Assumes nothing.
---     Input           the data set in its encoding, the settings, the ledger with its count in use, and how long the output buffer is
+--     Input            the data set in its encoding, the settings, the ledger with its count in use, and how long the output buffer is
 --     read_as i        the tree of the data set, or its first fault of shape
 --     tree_of i        that tree; none where there is a fault
---     content i       its kept content
+--     content i        its kept content
 --     in_use i         the slots of the ledger that are in use
 --     slots_after i    the slots in use after the run: those, and one for each UID that is met first
 --     bytes_for i      what is written, were there room for it

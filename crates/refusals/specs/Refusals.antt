@@ -1,9 +1,9 @@
 -- The refusals: document 01, "When the station says no", in the order of its table. Every definition that refuses names one of these, and
 -- the constants of `src/lib.rt` have the same names. Assumes nothing.
---     bad_settings, bad_root, bad_count, bad_list, too_long             1 to 5: what is judged before the data set is read
---     cut_short, bad_tag, bad_vr, bad_length, too_deep                  6 to 10: faults of shape
---     bad_uids, bad_dates                                            11 and 12: faults of values
---     no_slot, no_room                                               13 and 14: no room for what has to be written
+--     bad_settings, bad_root, bad_count, bad_list, too_long        1 to 5: what is judged before the data set is read
+--     cut_short, bad_tag, bad_vr, bad_length, too_deep             6 to 10: faults of shape
+--     bad_uids, bad_dates                                          11 and 12: faults of values
+--     no_slot, no_room                                             13 and 14: no room for what has to be written
 use Rattle.std.specs.Prelude.{ℕ}
 
 -- the settings may not be asked for: a number with a bit of no option, both date options, a shift out of its range, or a shift without

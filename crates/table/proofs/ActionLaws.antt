@@ -1,16 +1,16 @@
 -- Laws of `specs/Action.antt`. What is said of an option is said once, over its bit. No contract cites this file. Assumes nothing.
---     letter_for-action_for                             a letter's action has that letter
---     action_for-else                                  what is none of the other letters is K
+--     letter_for-action_for                              a letter's action has that letter
+--     action_for-else                                    what is none of the other letters is K
 --     on_row-none, on_row-dates, on_row-letter           one for each branch of `on_row`
 --     on_row-clean, on_row-keep, on_row-basic            8th sentence: C wins; K overrides; else the basic action
---     on_row-same, on_row-unchosen                      rows with the same basic action and the same letters for the chosen options order the same
+--     on_row-same, on_row-unchosen                       rows with the same basic action and the same letters for the chosen options order the same
 --     action_of-ruled, action_of-row, action_of-found    a rule decides; else the row; and where there is a row, the row
---     action_of-basic                                  with no option chosen a row's basic action
---     action_of-rowless                                K where no rule and no row speaks
---     reserved-removed, reserved-kept                 the four reserved tags are X at the top level and K in an item, under every option number
---     action_of-level                                  any other tag has the same action at every level
---     action_of-chosen                                 the action hangs on which options are chosen, and on no more of the option number
---     action_of-dates                                  without Modified Dates no action is its C
+--     action_of-basic                                    with no option chosen a row's basic action
+--     action_of-rowless                                  K where no rule and no row speaks
+--     reserved-removed, reserved-kept                    the four reserved tags are X at the top level and K in an item, under every option number
+--     action_of-level                                    any other tag has the same action at every level
+--     action_of-chosen                                   the action hangs on which options are chosen, and on no more of the option number
+--     action_of-dates                                    without Modified Dates no action is its C
 use mathlib.Core.Path.{◌≡◌, refl, sym, ap, ◌∙◌}
 use mathlib.Core.Bool.{Bool, true, false, false≢true}
 use mathlib.Core.List.{[], ◌∷◌}

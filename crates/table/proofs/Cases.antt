@@ -1,7 +1,7 @@
 -- Cases of `specs/Action.antt`: one claim, proved by computation over the whole table. Assumes nothing.
 --     none, full, modified, patient, device, uids, institution     option numbers: no option, and each option alone
 --     widest                                                       all that can be chosen beside Full Dates
---     at_top, in_item options tag action                             a case: the action that is right at the top level, or in an item
+--     at_top, in_item options tag action                           a case: the action that is right at the top level, or in an item
 --     cases                                                        the cases, in document 01's order
 --     samples                                                      each of them gets the action that is right
 use mathlib.Core.Path.{◌≡◌, refl}

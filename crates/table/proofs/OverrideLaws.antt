@@ -1,5 +1,5 @@
 -- Laws of `specs/Override.antt`. What is said of an option is said once, over its bit. No contract cites this file. Assumes nothing.
---     has_bit-zero                                  the option number 0 chooses none
+--     has_bit-zero                                 the option number 0 chooses none
 --     given-unchosen, given-legal                  an option that is not chosen gives none; one that is gives K, C or none
 --     over-none, over-some                         one for each branch of `over`
 --     place-next                                   dividing once more brings the next place lowest
@@ -7,8 +7,8 @@
 --     overriding-same                              options that give the same, bit by bit, give the same together
 --     overriding-none                              none where no option gives a letter
 --     overriding-clean, overriding-keep            C where one gives C; K where one gives K and none gives C
---     cleans_dates-chosen                           with Modified Dates chosen its column decides
---     row_of-dates                                  A7: no row has C in Modified Dates' column and in another
+--     cleans_dates-chosen                          with Modified Dates chosen its column decides
+--     row_of-dates                                 A7: no row has C in Modified Dates' column and in another
 use mathlib.Core.Path.{◌≡◌, refl, sym, ◌∙◌}
 use mathlib.Core.Logic.{⊎_elim}
 use mathlib.Core.Bool.{Bool, true, false, not, ◌||◌, or-false}

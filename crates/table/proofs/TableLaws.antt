@@ -1,12 +1,12 @@
 -- Laws of `specs/Table.antt`. The table's own rules are settled by one computed test each and carried from there to each row. No
 -- contract cites this file. Assumes nothing.
 --     length-table                   the table has row_count rows
---     row_in-found, row_in-absent      the row at an index that has the tag where none before it has; no_row where none has
---     row_in-every                    what is found has the tag and passes a test that every row passes
+--     row_in-found, row_in-absent    the row at an index that has the tag where none before it has; no_row where none has
+--     row_in-every                   what is found has the tag and passes a test that every row passes
 --     table-rises                    of two rows the later has the greater tag
---     row_of-found, row_of-absent      each row is found by its tag; no_row where no row has the tag
---     row_of-every                    what is found has the tag and passes a test that every row passes
---     table-legal, row_of-legal       each row, and so what is found, has legal letters
+--     row_of-found, row_of-absent    each row is found by its tag; no_row where no row has the tag
+--     row_of-every                   what is found has the tag and passes a test that every row passes
+--     table-legal, row_of-legal      each row, and so what is found, has legal letters
 --     columns-at                     the column at an index is that of the same bit
 --     legal-basic, legal-letter      what that says of the basic action, and of the letter in an option's column
 use mathlib.Core.Path.{◌≡◌, refl}

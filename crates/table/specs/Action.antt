@@ -1,9 +1,9 @@
 -- The action that an element gets: document 01, "Which action an element gets", whole. The rows are in `Table.antt`, the rules before them in
 -- `Rules.antt`, the options in `Override.antt`. Laws: `proofs/ActionLaws.antt`. Assumes nothing.
---     letter_for action             document 01's letter for each case of `Action` in `src/lib.rt`; Clean and CleanDates are both C
---     action_for letter             the action for a letter on a row
---     on_row options row            the action that a row orders; K for no_row
---     action_of options top tag     the action, at the top level or, where top is false, in an item
+--     letter_for action            document 01's letter for each case of `Action` in `src/lib.rt`; Clean and CleanDates are both C
+--     action_for letter            the action for a letter on a row
+--     on_row options row           the action that a row orders; K for no_row
+--     action_of options top tag    the action, at the top level or, where top is false, in an item
 use Rattle.std.specs.Prelude.{Bool, ℕ, eqb}
 use Rattle.basis.specs.Choice.{pick, fork}
 use Rattle.table.specs.Table.{X, Z, U, K, C, D, basic_of, no_row, row_of}

@@ -1,12 +1,12 @@
 -- How chosen options override a row's basic action: document 01, "Which action an element gets", 7th and 8th sentence, with readings A6 to A9.
 -- Laws: `proofs/OverrideLaws.antt`. Assumes nothing.
---     option_count                  how many options there are; their bits are those below
---     modified_dates                the bit of Modified Dates
+--     option_count                 how many options there are; their bits are those below
+--     modified_dates               the bit of Modified Dates
 --     given options row bit        the letter that the option of that bit gives on a row: none where it is not chosen
 --     over letter next             next where that is a letter, else letter
 --     stronger letter next         the same, but a C stays
 --     overriding options row n     what the options of the bits below n give together on a row
---     cleans_dates options row      a test: Modified Dates is chosen and has C on the row
+--     cleans_dates options row     a test: Modified Dates is chosen and has C on the row
 use Rattle.std.specs.Prelude.{Bool, ℕ, zero, suc, eqb}
 use Rattle.basis.specs.Choice.{pick}
 use Rattle.basis.specs.Bytes.{has_bit}

@@ -1,7 +1,7 @@
 -- The rows of DICOM PS3.15, edition 2023b, Table E.1-1, as document 01, "Which action an element gets", reads them.
 -- Made by tools/make-table from data/table-e1-1.tsv. Do not edit: `tools/make-table --check` compares. Assumes nothing.
 --     table        the rows, one for each single tag that a line names, rising by tag; a tag that is printed twice is one row (A16)
---     row_count     how many they are: 604
+--     row_count    how many they are: 604
 -- A row reads: group, element, the basic action, then the letters of the options of bits 6 to 0. `Table.antt` has the digits.
 use Rattle.std.specs.Prelude.{List, [], ◌∷◌, ℕ}
 

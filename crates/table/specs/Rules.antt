@@ -1,14 +1,14 @@
 -- The rules that come before the rows: document 01, "Which action an element gets", 2nd to 4th sentence, with readings A1 to A5. Whatever
 -- a rule speaks of is X. Laws: `proofs/RulesLaws.antt`. Assumes nothing.
---     group_of tag, element_of tag     the two halves of a tag
---     curve tag                      a test: an element of an even group 50xx
---     private tag                    a test: an element of an odd group
---     overlay tag                    a test: (60xx,3000) or (60xx,4000) of an even group
---     zeroth tag                     a test: element 0000 of any group
+--     group_of tag, element_of tag    the two halves of a tag
+--     curve tag                       a test: an element of an even group 50xx
+--     private tag                     a test: an element of an odd group
+--     overlay tag                     a test: (60xx,3000) or (60xx,4000) of an even group
+--     zeroth tag                      a test: element 0000 of any group
 --     patient_identity_removed_tag, deidentification_method_tag, deidentification_codes_tag, longitudinal_time_tag
---                                    the four tags that are taken off the top level, by their names in PS3.6
---     reserved                       these four
---     ruled top tag                  a test: a rule speaks of the tag, at the top level or, where top is false, in an item
+--                                     the four tags that are taken off the top level, by their names in PS3.6
+--     reserved                        these four
+--     ruled top tag                   a test: a rule speaks of the tag, at the top level or, where top is false, in an item
 use Rattle.std.specs.Prelude.{Bool, ◌&&◌, ◌||◌, List, [], ◌∷◌, ℕ, ◌/◌, ◌%◌, eqb}
 use Rattle.basis.specs.Choice.{among}
 

@@ -1,14 +1,14 @@
 -- What a row of the action table holds, and the row of a tag: document 01, "Which action an element gets", 1st and 6th sentence. The rows
 -- stand in `Rows.antt`, made from the transcription of Table E.1-1. Laws: `proofs/TableLaws.antt`. Assumes nothing.
 --     X, Z, U, K, C, D       a letter, as the hexadecimal digit that stands for it in a row
---     no_letter               the digit of an empty cell
---     tag_of row              the row's tag: group × 65,536 + element
---     basic_of row            the letter of its basic action
---     letter_of row bit       the letter in the column of the option of that bit
+--     no_letter              the digit of an empty cell
+--     tag_of row             the row's tag: group × 65,536 + element
+--     basic_of row           the letter of its basic action
+--     letter_of row bit      the letter in the column of the option of that bit
 --     columns                the bits that have a column: 0 Full Dates, 1 Modified Dates, 2 Patient Characteristics, 3 Device Identity,
 --                            4 Retain UIDs, 5 Institution Identity, and 6 Clean Descriptors, which is not offered yet (A18)
---     row_in tag rows         the first of the rows with that tag, or no_row
---     row_of tag              the table's row of that tag, or no_row where the table has none
+--     row_in tag rows        the first of the rows with that tag, or no_row
+--     row_of tag             the table's row of that tag, or no_row where the table has none
 --     rising last rows       a test: the tags of the rows rise strictly, and the first is above last
 --     basics, overrides      the letters that a basic action, and an option's column, may have
 --     legal row              a test: the row has no other letters

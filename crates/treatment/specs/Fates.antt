@@ -1,13 +1,13 @@
 -- What happens to an element: document 01, "What each action writes". Under given settings it follows from the element's level, tag and
 -- VR alone, never from its value (K4). `Level` and `Fate` are the code's own enums, `src/lib.rt`, which says what each case is.
 -- Laws: `proofs/FatesLaws.antt`. Assumes nothing.
---     is_top level                 a test: the level is the top one
---     as_d vr                      the fate that D gives
---     by_action a vr               the fate that an action gives an element of this VR, one line for each action
+--     is_top level                a test: the level is the top one
+--     as_d vr                     the fate that D gives
+--     by_action a vr              the fate that an action gives an element of this VR, one line for each action
 --     fate_of options level tag vr the fate of an element under the option number
 --     fate s level tag vr         the same under the settings s
---     leaves_out φ                 a test: an element of this fate is left out
---     walks_into φ                 a test: a sequence of this fate is walked into
+--     leaves_out φ                a test: an element of this fate is left out
+--     walks_into φ                a test: a sequence of this fate is walked into
 --     below φ level               the level of what stands in the items of a sequence of this fate
 use Rattle.std.specs.Prelude.{Bool, true, false, [], ◌∷◌, ℕ, eqb}
 use Rattle.basis.specs.Choice.{pick, among}

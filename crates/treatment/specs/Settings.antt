@@ -1,8 +1,8 @@
 -- What a run is told besides the data set: document 01, "What the station takes and hands back". Later requests add fields.
 -- Assumes nothing.
---     Settings              the option number, the date shift in days, the UID root, the study's list and the site's
+--     Settings               the option number, the date shift in days, the UID root, the study's list and the site's
 --     settings_of n r s t    the settings that the code is handed: those that are numbers in one struct, the root and the two lists lent
---     Given n w             the settings w have the numbers n
+--     Given n w              the settings w have the numbers n
 use Rattle.std.specs.Prelude.{◌≡◌, List, ℕ, ℤ}
 use Rattle.treatment.specs.declared.SettingNumbers.{SettingNumbers}
 

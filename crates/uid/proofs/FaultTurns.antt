@@ -1,5 +1,5 @@
 -- The loop of `uids_fault`: what holds at its head, and each way on or out of it. No contract cites this file. Assumes nothing.
---     few_uids n us            us are at most n, and each is a UID
+--     few_uids n us           us are at most n, and each is a UID
 --     fault-none, fault-odd   before the loop: no byte; an odd length
 --     Judging                 at its head
 --     fault-start, fault-over, fault-bad, fault-long, fault-last, fault-go

@@ -1,13 +1,13 @@
 -- Laws of `specs/Value.antt`, on values of UIDs. No contract cites this file. Assumes nothing.
 --     Short n us, Filled us             none of us is longer than n; none is empty
 --     uids-are                          what the UIDs of a value are like: no zero byte, no backslash, short
---     uids_of-some, uids_of-odd           a value with bytes; one of odd length
---     uids_of-joined                     UIDs that were written are read back
---     UidsAre, uids_of-are               a value that obeys the rule is the one text of its UIDs
---     uids_of-found                      one that does not break the rule holds UIDs
---     uids_of-inj                        two values of the same UIDs are one value: padding is forced (K3)
---     value_of-even, value_of-length      the text of UIDs is even, and not long
---     value_of-inj                       two lists of UIDs have two texts
+--     uids_of-some, uids_of-odd         a value with bytes; one of odd length
+--     uids_of-joined                    UIDs that were written are read back
+--     UidsAre, uids_of-are              a value that obeys the rule is the one text of its UIDs
+--     uids_of-found                     one that does not break the rule holds UIDs
+--     uids_of-inj                       two values of the same UIDs are one value: padding is forced (K3)
+--     value_of-even, value_of-length    the text of UIDs is even, and not long
+--     value_of-inj                      two lists of UIDs have two texts
 use mathlib.Core.Path.{◌≡◌, refl, sym, ap, ◌∙◌}
 use mathlib.Core.Bool.{Bool, true, false, ◌&&◌, true≢false, and-eq-true_iff}
 use mathlib.Core.Option.{Option, none, some, none-ne-some, some-injective}

@@ -1,8 +1,8 @@
 -- New UIDs: document 01, "UIDs, dates, lists", 6th sentence. Laws: `proofs/NewUidLaws.antt`. Assumes nothing.
 --     decimal n            the number n in decimal, highest digit first, in the fewest digits
---     new_uid root n        the UID that the number n stands for
---     uids_text root ns     the value that holds the new UIDs of the numbers ns
---     digits_in k n         n in decimal, for n below k
+--     new_uid root n       the UID that the number n stands for
+--     uids_text root ns    the value that holds the new UIDs of the numbers ns
+--     digits_in k n        n in decimal, for n below k
 use Rattle.std.specs.Prelude.{List, [], ◌∷◌, ◌++◌, map, ℕ, zero, suc, ◌+◌, ◌/◌, ◌%◌, ltb}
 use Rattle.basis.specs.Choice.{fork}
 use Rattle.basis.specs.Text.{digit0}

@@ -1,12 +1,12 @@
 -- The UID rule: document 01, "UIDs, dates, lists", 1st sentence, and refusal 2. Laws: `proofs/UidLaws.antt`. Assumes nothing.
---     is_uid u             u is a UID
---     is_root u            u is a UID that is short enough to be a root
---     uid_upto n u         u is formed as a UID is, in at most n characters
+--     is_uid u            u is a UID
+--     is_root u           u is a UID that is short enough to be a root
+--     uid_upto n u        u is formed as a UID is, in at most n characters
 --     formed u            u is made of components with dots between them
 --     components u        u cut at its dots: one component more than there are dots
 --     component p         p is a component: digits, at least one, the first no zero unless it is the only one
---     longest_uid          the most characters of a UID: 64
---     longest_root         the most characters of a root: 59, so that a dot and a number of four digits still make a UID (U4)
+--     longest_uid         the most characters of a UID: 64
+--     longest_root        the most characters of a root: 59, so that a dot and a number of four digits still make a UID (U4)
 --     dot                 the byte 2E hex
 -- Looser than PS3.5: nothing is asked of the first two components, and one component is enough (U3).
 use Rattle.std.specs.Prelude.{Bool, false, ◌&&◌, List, [], ◌∷◌, ℕ, eqb, leb, length}

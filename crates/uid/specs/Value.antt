@@ -1,12 +1,12 @@
 -- A value of UIDs, as it is read and as it is made: document 01, "UIDs, dates, lists", 2nd sentence, and refusal 11.
 -- Laws: `proofs/PadLaws.antt`, `proofs/ValueLaws.antt`. Assumes nothing.
---     uids_of v         the UIDs that the value v holds, or nothing where it breaks the rule
---     uids_fault v      v breaks the rule
---     value_of us       the value that holds the UIDs us
---     if_uids us        us, where they are at most 1,000 and each is a UID
+--     uids_of v        the UIDs that the value v holds, or nothing where it breaks the rule
+--     uids_fault v     v breaks the rule
+--     value_of us      the value that holds the UIDs us
+--     if_uids us       us, where they are at most 1,000 and each is a UID
 --     trimmed v        v without one zero byte at its end, where it has one
---     zero_pad t        one zero byte where the length of t is odd, else nothing
---     most_uids         the most UIDs of a value: 1,000
+--     zero_pad t       one zero byte where the length of t is odd, else nothing
+--     most_uids        the most UIDs of a value: 1,000
 -- A value without any byte holds no UID. Another is even, so that its zero byte, if there is one, is the one that the rule asks for (U1).
 use Rattle.std.specs.Prelude.{Bool, ◌&&◌, List, [], ◌∷◌, ◌++◌, ℕ, ◌%◌, eqb, leb, length}
 use Rattle.std.proofs.Math.Option.{Option, none, some}

@@ -1,7 +1,7 @@
 -- Laws of `specs/View.antt`. No contract cites this file. Assumes nothing.
---     shown-refused     what is refused to the view was refused to the search
+--     shown-refused      what is refused to the view was refused to the search
 --     view_of-refused    a refusal of the view is one of 5 to 10, with an offset within the data set
---     shows-numbers     the part that is shown is the one that the numbers of the C interface tell
+--     shows-numbers      the part that is shown is the one that the numbers of the C interface tell
 use mathlib.Core.Path.{◌≡◌, refl}
 use mathlib.Core.List.{List}
 use Prim.Native.Nat.{ℕ, ◌+◌, ◌-◌, ◌≤◌}

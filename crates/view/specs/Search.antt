@@ -1,9 +1,9 @@
 -- The search that the second entry stands on: where on the top level an element stands, and its VR; readings V1 to V3. It is apart from
 -- the view because what is shown of an element may hang on its VR, and because another reader may want the place and no view.
 --     find tag es         the VR of the element with this tag on the level es, and where it stands
---     sought_at p          what was found, or absent
---     sought_in r tag      the search in what was read: a fault anywhere, or found, or absent
---     search_of x tag      the search in the data set x
+--     sought_at p         what was found, or absent
+--     sought_in r tag     the search in what was read: a fault anywhere, or found, or absent
+--     search_of x tag     the search in the data set x
 --     SoughtFits n a      the part that is told of lies within n bytes
 -- The answer is the code's own enum, `Sought` of `src/lib.rt`. Laws: `proofs/SearchLaws.antt`. Assumes nothing.
 use Rattle.std.proofs.Math.Option.{Option, none, some}

@@ -1,5 +1,5 @@
 -- How the code keeps the kinds of many VRs in one number. Nothing of document 01: only `kinds_after` cites it. Assumes nothing.
---     kind_number k         the number of two bits that stands for a kind
+--     kind_number k        the number of two bits that stands for a kind
 --     KindsAfter first r   r holds the kinds of the VRs with that first letter, two bits for each second letter from 64 to 95
 use Rattle.std.specs.Prelude.{◌≡◌, ℕ, ◌+◌, ◌*◌, ◌/◌, ◌%◌, ◌^◌, ◌<◌}
 use Rattle.vr.specs.Vr.{kind_of}

@@ -1,10 +1,10 @@
 -- What document 01 says of a VR, as four questions about its two letters.
---     all_vrs            the 34 VRs
---     long, served      those with a length of four bytes; those that list values serve
---     kind_of vr         how an element's header goes on after the VR: Unknown, Short, Long or Sequence
+--     all_vrs             the 34 VRs
+--     long, served        those with a length of four bytes; those that list values serve
+--     kind_of vr          how an element's header goes on after the VR: Unknown, Short, Long or Sequence
 --     served_by_lists vr  a replacement list may give a value for it
---     dummy_of vr        what D writes where no list has a value, before padding; nothing for UI and SQ, which D treats otherwise, and for no VR
---     in_room xs         xs and then zeros, 14 bytes in all: how the code hands a dummy over
+--     dummy_of vr         what D writes where no list has a value, before padding; nothing for UI and SQ, which D treats otherwise, and for no VR
+--     in_room xs          xs and then zeros, 14 bytes in all: how the code hands a dummy over
 -- Laws: `proofs/VrLaws.antt`. Assumes nothing.
 use Rattle.std.specs.Prelude.{Bool, List, [], ◌∷◌, ◌++◌, ℕ, ◌-◌, eqb, length, replicate}
 use Rattle.basis.specs.Choice.{pick, among}

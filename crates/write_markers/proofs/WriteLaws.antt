@@ -1,6 +1,6 @@
 -- Laws of `specs/Write.antt` of the crate `layout`: what is put in front of k is put, and then k. No contract cites this file. Assumes nothing.
---     put-field-on, put_elements-on, put_items-on     an element's bytes, a level's, those of a sequence's items
---     item-on                                       an item, by what puts its elements and what follows it
+--     put-field-on, put_elements-on, put_items-on    an element's bytes, a level's, those of a sequence's items
+--     item-on                                        an item, by what puts its elements and what follows it
 use mathlib.Core.Path.{◌≡◌, refl, sym, ap, ◌∙◌}
 use mathlib.Core.List.{List, [], ◌++◌, append_assoc}
 use Prim.Native.Nat.{ℕ}

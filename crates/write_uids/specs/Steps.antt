@@ -1,6 +1,6 @@
 -- What the steps inside `put_renamed` hand over; each is short for words of the other files. Inner contracts cite this file, no
 -- promise does. Laws: `proofs/Turns.antt`, `proofs/Whole.antt`. Assumes nothing.
---     text_of root ks us     the new UIDs of us with backslashes between them, numbered from the names ks on
+--     text_of root ks us    the new UIDs of us with backslashes between them, numbered from the names ks on
 --     Texted                the text of a value was written, where its pieces are UIDs
 --     Finished              a text that stands eight bytes on was made a whole UI element: a zero byte where its length is odd, and the header
 use Rattle.std.specs.Prelude.{◌≡◌, true, List, ◌++◌, map, ℕ, ◌+◌, ◌-◌, ◌*◌, ◌≤◌, length, take}

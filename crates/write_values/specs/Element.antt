@@ -1,7 +1,7 @@
 -- One element of the output, in bytes: document 01, "What each action writes", and Layout, 1st point. Contracts cite this file.
 -- Laws: `proofs/ElementLaws.antt`, `proofs/FillerLaws.antt`. Assumes nothing.
---     element_bytes tag vr f     the bytes of the element with that tag, VR and field: its header and what follows
---     with_lists study site      settings of which only the two lists are of use: what stands in the place of a replaced value hangs
+--     element_bytes tag vr f    the bytes of the element with that tag, VR and field: its header and what follows
+--     with_lists study site     settings of which only the two lists are of use: what stands in the place of a replaced value hangs
 --                               on nothing else (`emptied-any`, `dummied-any`)
 use Rattle.std.specs.Prelude.{List, [], ℕ, pos}
 use Rattle.layout.specs.Tree.{Field}
