@@ -1,6 +1,7 @@
 // The C interface (include/corravisk.h): each function is a thin layer over the crate that it is named for. Nothing is asked of the
 // caller but that pointers and lengths are true and that what may be written overlaps nothing else. The crate abi_c exports them to C.
 #![tactic(auto)]
+
 ghost use Rattle.std.specs.Prelude.{◌≡◌, length};
 ghost use Rattle.layout.specs.Source.{explicitly};
 ghost use Rattle.view.specs.View.{view_of};

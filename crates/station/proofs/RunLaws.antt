@@ -26,10 +26,9 @@ use Rattle.ledger.specs.Slots.{slot_size, slots_of, slot_of, flat}
 use Rattle.ledger.proofs.SlotLaws.{Sized, slots_of-fits, sized-slots_in, sized-learns, length-flat}
 use Rattle.treatment.specs.Settings.{settings_of, Given}
 use Rattle.treatment.specs.declared.SettingNumbers.{SettingNumbers}
-use Rattle.treatment.specs.declared.Level.{Level}
 use Rattle.treatment.specs.declared.Level.TheVariants.{Top}
 use Rattle.kept.specs.Content.{uids_in}
-use Rattle.kept.specs.Counts.{Counts, counts, counts_of}
+use Rattle.kept.specs.Counts.{Counts, counts_of}
 use Rattle.kept.specs.Faults.{Fault as ValueFault, first_fault}
 use Rattle.kept.proofs.UidsLaws.{kept-uids, sized-uids}
 use Rattle.outcome.specs.Input.{Input, read_as, tree_in, tree_of, content, in_use, slots_after, bytes_for}

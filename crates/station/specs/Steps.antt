@@ -22,7 +22,6 @@ use Rattle.lists.specs.Lists.{list_ok}
 use Rattle.options.specs.Settings.{settings_fault}
 use Rattle.treatment.specs.Settings.{Settings, Given}
 use Rattle.treatment.specs.declared.SettingNumbers.{SettingNumbers}
-use Rattle.treatment.specs.declared.Level.{Level}
 use Rattle.treatment.specs.declared.Level.TheVariants.{Top}
 use Rattle.kept.specs.Faults.{first_fault}
 use Rattle.outcome.specs.Outcome.{filled_up}

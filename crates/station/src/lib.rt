@@ -2,6 +2,7 @@
 // order, and every byte of the output and the ledger is told, whatever the inputs are. Its steps are public, so that an entry for another
 // kind of input is made of the same ones.
 #![tactic(auto)]
+
 ghost use Rattle.std.specs.Prelude.{◌≡◌, length};
 ghost use Rattle.layout.specs.Source.{explicitly};
 ghost use Rattle.table.specs.Rows.{table};

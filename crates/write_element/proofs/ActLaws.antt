@@ -4,40 +4,38 @@
 --     act-full, act-renamed    a UI element, its UIDs renamed: no slot was free; and one was found for each
 --     act-stop          the fates that come to nothing here
 use mathlib.Core.Path.{◌≡◌, refl, sym, ap, subst, ◌∙◌}
-use mathlib.Core.Bool.{Bool, true, false, false≢true}
-use mathlib.Core.Logic.{◌≢◌, ◌⊎◌, inl, inr}
-use mathlib.Core.List.{List, [], ◌∷◌, ◌++◌, map, append-nil}
-use mathlib.Core.Option.{Option, none, some, none-ne-some}
-use Prim.Native.Nat.{ℕ, zero, suc, ◌+◌, ◌-◌, ◌*◌, ◌≤◌, ◌<◌}
+use mathlib.Core.Bool.{Bool, true, false}
+use mathlib.Core.Logic.{◌⊎◌, inl, inr}
+use mathlib.Core.List.{List, [], ◌++◌, map, append-nil}
+use mathlib.Core.Option.{none, some}
+use Prim.Native.Nat.{ℕ, suc, ◌+◌, ◌-◌, ◌*◌, ◌≤◌, ◌<◌}
 use native.Mathlib.Omega.{arith}
 use lib.IntN.{ℤ}
 use lib.Dec.{eqb}
-use lib.ListN.{length, take, length-append}
+use lib.ListN.{length, length-append}
 use Rattle.basis.specs.Bytes.{part}
 use Rattle.basis.specs.Choice.{pick}
 use Rattle.basis.proofs.BytesLaws.{length-part}
 use Rattle.buffer.specs.Buffer.{laid}
 use Rattle.buffer.proofs.Laws.{length-laid, laid-none, laid-over, laid-more}
 use Rattle.vr.specs.Names.{DA, DT, SQ, UI}
-use Rattle.layout.specs.Tree.{Field, value, items, Elements, nil, elem, Items, Place}
+use Rattle.layout.specs.Tree.{Field, value, items, nil, elem, Place}
 use Rattle.uid.specs.Value.{uids_of, uids_fault}
 use Rattle.uid.specs.NewUid.{uids_text}
 use Rattle.uid.proofs.ValueLaws.{uids_of-found}
 use Rattle.calendar.specs.Values.{shifted_value, shifted_text}
 use Rattle.calendar.proofs.ValuesLaws.{shifted_value-good, length-shifted_text}
 use Rattle.ledger.specs.FirstMet.{learns, numbers, same_uid}
-use Rattle.ledger.specs.Slots.{slot_size, slots_of, slots_in, slot_of, flat}
+use Rattle.ledger.specs.Slots.{slots_of, slots_in, slot_of, flat}
 use Rattle.ledger.proofs.SlotLaws.{flat-learns}
 use Rattle.treatment.specs.Settings.{Settings}
-use Rattle.treatment.specs.Fates.{fate}
-use Rattle.treatment.specs.declared.Level.{Level}
 use Rattle.treatment.specs.declared.Fate.{Fate}
 use Rattle.treatment.specs.declared.Fate.TheVariants.{Removed, Kept, Walked, Emptied, Dummied, Renamed, Shifted, Wrong}
 use Rattle.kept.specs.Fillers.{or, emptied_as, dummied_as}
 use Rattle.kept.specs.Written.{shifted_as}
 use Rattle.kept.specs.Counts.{Counts, counts, plus, one}
-use Rattle.kept.specs.Faults.{at, field_fault, value_fault}
-use Rattle.treatment.proofs.FatesLaws.{fate-kept, fate-renamed, fate-shifted, fate-wrong, fate-walked}
+use Rattle.kept.specs.Faults.{at, field_fault}
+use Rattle.treatment.proofs.FatesLaws.{fate-kept, fate-renamed, fate-shifted, fate-wrong}
 use Rattle.write_values.specs.Element.{element_bytes, with_lists}
 use Rattle.write_uids.specs.Renamed.{RenamedValue}
 use Rattle.write_uids.specs.declared.Renamed.{Renamed as Renaming}
@@ -46,10 +44,9 @@ use Rattle.write_values.proofs.ElementLaws.{length-header, length-value}
 use Rattle.write_values.proofs.FillerLaws.{emptied-any, dummied-any, emptied-length, dummied-length}
 use Rattle.write_state.specs.Bounds.{one_element}
 use Rattle.write_state.specs.Passed.{State, say, count, passed_one}
-use Rattle.write_state.specs.Steps.{at_place, one_kept, one_replaced, one_renamed, one_removed}
-use Rattle.write_state.specs.Wrote.{met, Holds, Ends, Within, Wrote, Stands, ElementPass, ActPass}
+use Rattle.write_state.specs.Steps.{one_kept, one_replaced, one_renamed, one_removed}
+use Rattle.write_state.specs.Wrote.{met, Wrote, Stands, ActPass}
 use Rattle.write_state.specs.declared.Progress.{Progress}
-use Rattle.write_state.specs.declared.Walk.{Walk}
 use Rattle.write_state.specs.declared.Walk.TheVariants.{Stop, To}
 use Rattle.write_state.proofs.PassedLaws.{counts-is, one_removed as passed-removed, one_kept as passed-kept, one-shifted, one-emptied, one-dummied, one_renamed as passed-renamed}
 use Rattle.write_state.proofs.HoldsLaws.{holds-say, holds-count}

@@ -1,6 +1,7 @@
 // What is done with one element that is not walked into: document 01, "What each action writes". It is written, its UIDs are found in the
 // ledger or added to it, and it is counted. The walk that comes by is `write_walk`.
 #![tactic(auto)]
+
 ghost use Rattle.std.specs.Prelude.{◌-◌, ◌≤◌, length};
 ghost use Rattle.treatment.specs.Settings.{settings_of};
 ghost use Rattle.write_state.specs.Bounds.{one_element};

@@ -1,30 +1,28 @@
 -- Laws of `specs/Passed.antt`: how the state goes on over an element, an item, and at the end of each. No contract cites this file.
 -- Assumes nothing.
-use mathlib.Core.Path.{◌≡◌, refl, sym, ap, ap₂, ◌∙◌}
+use mathlib.Core.Path.{◌≡◌, refl, sym, ap, ◌∙◌}
 use mathlib.Core.Bool.{Bool, true, false, false≢true}
 use mathlib.Core.Option.{some}
-use mathlib.Core.List.{List, [], ◌∷◌, ◌++◌, map, append_assoc, append-nil}
+use mathlib.Core.List.{List, [], ◌++◌, map, append_assoc, append-nil}
 use mathlib.Core.Logic.{◌≢◌}
-use Prim.Native.Nat.{ℕ, ◌+◌, ◌≤◌, ◌<◌}
+use Prim.Native.Nat.{ℕ, ◌+◌, ◌≤◌}
 use native.Mathlib.Omega.{arith}
 use lib.ListN.{length}
 use Rattle.basis.specs.Choice.{pick}
-use Rattle.vr.specs.Names.{SQ}
-use Rattle.layout.specs.Tree.{Field, value, items, Elements, nil, elem, Items, none as no_item, item, Place, Data}
+use Rattle.layout.specs.Tree.{Field, value, items, Elements, nil, elem, Items, none as no_item, item, Place}
 use Rattle.layout.specs.Heads.{item_tag, item_end, sequence_end, undefined}
-use Rattle.layout.specs.Write.{mark, header, opened, closed, put_elements, put_field, put_sequence, put_items, bytes_of}
+use Rattle.layout.specs.Write.{mark, put_elements, put_field, put_items, bytes_of}
 use Rattle.uid.specs.Value.{uids_of}
 use Rattle.uid.specs.NewUid.{uids_text}
 use Rattle.ledger.specs.FirstMet.{learns, numbers, same_uid}
 use Rattle.ledger.specs.Slots.{slot_of}
 use Rattle.ledger.proofs.FirstMetLaws.{learns-append, learns-length}
 use Rattle.treatment.specs.Settings.{Settings}
-use Rattle.treatment.specs.Fates.{is_top, fate, walks_into, below}
+use Rattle.treatment.specs.Fates.{is_top, fate, below}
 use Rattle.treatment.specs.declared.Level.{Level}
-use Rattle.treatment.specs.declared.Level.TheVariants.{Top, Inner, Under}
 use Rattle.treatment.specs.declared.Fate.{Fate}
 use Rattle.treatment.specs.declared.Fate.TheVariants.{Removed, Kept, Walked, Emptied, Dummied, Renamed, Shifted, Wrong}
-use Rattle.kept.specs.Content.{Body, shown, blank, uids, walk, Content, end, keep, Walks, last, each, map_body, map_content, map_walks, uids_in_body, uids_in, uids_in_walks}
+use Rattle.kept.specs.Content.{Body, keep, map_body, map_content, map_walks, uids_in_body, uids_in, uids_in_walks}
 use Rattle.kept.specs.Kept.{Uid, kept_field, kept_of, kept_items}
 use Rattle.kept.specs.Numbering.{numbered_body, numbered, numbered_walks}
 use Rattle.kept.specs.Fillers.{emptied_as, dummied_as}

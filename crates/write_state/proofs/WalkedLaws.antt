@@ -2,42 +2,25 @@
 --     lower        the level of what stands in its items
 --     one-shut     it has no items: a header with length 0
 --     one-open     it has some: a header, and then the items
-use mathlib.Core.Path.{◌≡◌, refl, sym, ap, ap₂, ◌∙◌}
-use mathlib.Core.Bool.{Bool, true, false, false≢true}
-use mathlib.Core.Option.{some}
-use mathlib.Core.List.{List, [], ◌∷◌, ◌++◌, map, append_assoc, append-nil}
-use mathlib.Core.Logic.{◌≢◌}
-use Prim.Native.Nat.{ℕ, ◌+◌, ◌≤◌, ◌<◌}
+use mathlib.Core.Path.{◌≡◌, refl, sym, ap, ◌∙◌}
+use mathlib.Core.List.{List, [], ◌++◌, append_assoc, append-nil}
+use Prim.Native.Nat.{ℕ}
 use native.Mathlib.Omega.{arith}
-use lib.ListN.{length}
-use Rattle.basis.specs.Choice.{pick}
 use Rattle.vr.specs.Names.{SQ}
-use Rattle.layout.specs.Tree.{Field, value, items, Elements, nil, elem, Items, none as no_item, item, Place, Data}
-use Rattle.layout.specs.Heads.{item_tag, item_end, sequence_end, undefined}
-use Rattle.layout.specs.Write.{mark, header, opened, closed, put_elements, put_field, put_sequence, put_items, bytes_of}
-use Rattle.uid.specs.Value.{uids_of}
-use Rattle.uid.specs.NewUid.{uids_text}
-use Rattle.ledger.specs.FirstMet.{learns, numbers, same_uid}
-use Rattle.ledger.specs.Slots.{slot_of}
-use Rattle.ledger.proofs.FirstMetLaws.{learns-append, learns-length}
+use Rattle.layout.specs.Tree.{items, Elements, nil, elem, Items, none as no_item, item, Place}
+use Rattle.layout.specs.Heads.{undefined}
+use Rattle.layout.specs.Write.{header, put_elements, put_field, put_sequence, put_items}
+use Rattle.ledger.specs.FirstMet.{learns, same_uid}
 use Rattle.treatment.specs.Settings.{Settings}
-use Rattle.treatment.specs.Fates.{is_top, fate, walks_into, below}
+use Rattle.treatment.specs.Fates.{fate, below}
 use Rattle.treatment.specs.declared.Level.{Level}
-use Rattle.treatment.specs.declared.Level.TheVariants.{Top, Inner, Under}
-use Rattle.treatment.specs.declared.Fate.{Fate}
-use Rattle.treatment.specs.declared.Fate.TheVariants.{Removed, Kept, Walked, Emptied, Dummied, Renamed, Shifted, Wrong}
-use Rattle.kept.specs.Content.{Body, shown, blank, uids, walk, Content, end, keep, Walks, last, each, map_body, map_content, map_walks, uids_in_body, uids_in, uids_in_walks}
-use Rattle.kept.specs.Kept.{Uid, kept_field, kept_of, kept_items}
+use Rattle.treatment.specs.declared.Fate.TheVariants.{Walked}
+use Rattle.kept.specs.Content.{walk, Walks, map_content, map_walks, uids_in, uids_in_walks}
+use Rattle.kept.specs.Kept.{kept_of, kept_items}
 use Rattle.kept.specs.Numbering.{numbered_body, numbered, numbered_walks}
-use Rattle.kept.specs.Fillers.{emptied_as, dummied_as}
-use Rattle.kept.specs.Written.{shifted_as, written_field, written_of, written_items}
-use Rattle.kept.specs.Counts.{Counts, counts, nothing, plus, one, inside, counts_field, counts_of, counts_items}
-use Rattle.write_markers.specs.Gains.{From, gained, with_markers_if, with_markers_at}
-use Rattle.write_markers.proofs.WriteLaws.{put_elements-on}
-use Rattle.write_markers.proofs.GainsLaws.{Other, Rises, written-from, marks-other}
-use Rattle.write_markers.proofs.StepLaws.{step-kept, step-gone, step-end}
-use Rattle.write_values.specs.Element.{element_bytes}
-use Rattle.write_state.specs.Passed.{State, say, count, slotted, slotted_items, tree_for, passed, passed_one, passed_items}
+use Rattle.kept.specs.Written.{written_field, written_of, written_items}
+use Rattle.kept.specs.Counts.{plus, one, counts_of, counts_items}
+use Rattle.write_state.specs.Passed.{State, say, count, slotted_items, passed_one, passed_items}
 use Rattle.write_state.proofs.PassedLaws.{plus-nothing, plus-assoc, state, state-is, Appears, appears, one-keep}
 
 -- ---- a sequence that is walked into: without items, and with some

@@ -18,7 +18,7 @@
 --     SequencePass, WalkedPass, ShutPass   a sequence; one that is walked into; one that is not
 --     PlainPass, ActPass       an element with a value; one that is not walked into
 --     Stands f vr s from to    what an element that is not walked into holds
-use Rattle.std.specs.Prelude.{◌≡◌, Bool, true, false, ◌≢◌, List, ℕ, ◌+◌, ◌-◌, ◌*◌, ◌≤◌, ◌<◌, length, take}
+use Rattle.std.specs.Prelude.{◌≡◌, false, ◌≢◌, List, ℕ, ◌+◌, ◌-◌, ◌*◌, ◌≤◌, ◌<◌, length, take}
 use Rattle.std.proofs.Math.Option.{none}
 use Rattle.basis.specs.Bytes.{part}
 use Rattle.buffer.specs.Buffer.{laid}

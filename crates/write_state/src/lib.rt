@@ -1,6 +1,7 @@
 // How far the walk that writes is: the state that goes in and comes back by value, from element to element. What each step promises stands
 // in specs/Wrote.antt.
 #![tactic(auto)]
+
 ghost use Rattle.std.specs.Prelude.{◌≡◌};
 ghost use Rattle.write_state.specs.Steps.{at_place, one_kept, one_replaced, one_renamed, one_removed};
 ghost use Rattle.write_state.specs.Wrote.{Countable};

@@ -17,9 +17,9 @@ use Rattle.vr.specs.Vr.{kind_of}
 use Rattle.vr.specs.declared.Kind.{Kind}
 use Rattle.vr.specs.declared.Kind.TheVariants.{Unknown, Short, Long, Sequence}
 use Rattle.layout.specs.Source.{Encoding, explicit, Source}
-use Rattle.layout.specs.Tree.{Elements, nil, elem, Place}
+use Rattle.layout.specs.Tree.{Elements, Place}
 use Rattle.layout.specs.Heads.{item_end, tag_at, allowed, length_fault, value_head, sequence_head, long_head, vr_head, body_head, tag_head, element_head}
-use Rattle.layout.specs.Read.{good, fault, elements_at}
+use Rattle.layout.specs.Read.{good, elements_at}
 use Rattle.layout.specs.declared.Head.{Head}
 use Rattle.layout.specs.declared.Head.TheVariants.{Bad, End, Plain, Seq}
 use borrow.Author.Tests.{leb-true}

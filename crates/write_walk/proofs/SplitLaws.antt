@@ -9,7 +9,7 @@ use mathlib.Core.Path.{◌≡◌, refl, sym, ap, ◌∙◌}
 use mathlib.Core.Bool.{Bool}
 use mathlib.Core.List.{List}
 use mathlib.Core.Option.{none}
-use Prim.Native.Nat.{ℕ, zero, suc, ◌+◌, ◌-◌, ◌*◌, ◌≤◌, ◌<◌}
+use Prim.Native.Nat.{ℕ, zero, suc, ◌+◌, ◌-◌, ◌≤◌, ◌<◌}
 use native.Mathlib.Omega.{arith}
 use lib.ListN.{length}
 use Rattle.basis.specs.Bytes.{part}
@@ -17,7 +17,7 @@ use Rattle.buffer.specs.Buffer.{laid}
 use Rattle.buffer.proofs.Laws.{length-laid}
 use Rattle.vr.specs.Names.{SQ}
 use Rattle.layout.specs.Source.{Source}
-use Rattle.layout.specs.Tree.{Field, value, items, Elements, nil, elem, Items, none as no_item, item, Place}
+use Rattle.layout.specs.Tree.{Field, value, items, Elements, nil, elem, Items, item, Place}
 use Rattle.layout.specs.Heads.{item_tag, item_end, sequence_end, undefined, element_head, item_head}
 use Rattle.layout.specs.Read.{good, placed, elements_at, items_at}
 use Rattle.layout.specs.Write.{mark}
@@ -38,9 +38,8 @@ use Rattle.write_markers.specs.Gains.{all_markers, gained}
 use Rattle.write_state.specs.Bounds.{one_mark}
 use Rattle.write_state.specs.Passed.{State, say, passed, passed_one, passed_items}
 use Rattle.write_state.specs.Steps.{at_place}
-use Rattle.write_state.specs.Wrote.{Holds, Wrote, ReadElements, ReadItems, ElementPass, ElementsPass, PlainPass, SequencePass, ItemsPass, ItemPass, Gaining}
+use Rattle.write_state.specs.Wrote.{Holds, Wrote, ElementsPass, PlainPass, SequencePass, ItemsPass, ItemPass, Gaining}
 use Rattle.write_state.specs.declared.Progress.{Progress}
-use Rattle.write_state.specs.declared.Walk.{Walk}
 use Rattle.write_state.specs.declared.Walk.TheVariants.{Stop, To}
 use Rattle.write_state.proofs.PassedLaws.{passed-nil, passed-elem, passed-grows, items-none, items-item, items-grow}
 use Rattle.write_state.proofs.HoldsLaws.{holds-say}

@@ -7,10 +7,8 @@
 --     item-stop, item-done  an item's elements, between its marks
 use mathlib.Core.Path.{◌≡◌, refl, sym, ap, ◌∙◌}
 use mathlib.Core.Bool.{Bool, true, false}
-use mathlib.Core.Logic.{◌≢◌}
-use mathlib.Core.List.{List, []}
-use mathlib.Core.Option.{Option, none, some}
-use Prim.Native.Nat.{ℕ, zero, suc, ◌+◌, ◌-◌, ◌*◌, ◌≤◌, ◌<◌}
+use mathlib.Core.List.{List}
+use Prim.Native.Nat.{ℕ, zero, suc, ◌+◌, ◌-◌, ◌≤◌, ◌<◌}
 use native.Mathlib.Omega.{arith}
 use lib.ListN.{length}
 use Rattle.basis.specs.Bytes.{part}
@@ -18,9 +16,9 @@ use Rattle.buffer.specs.Buffer.{laid}
 use Rattle.buffer.proofs.Laws.{length-laid}
 use Rattle.vr.specs.Names.{SQ}
 use Rattle.layout.specs.Source.{Source}
-use Rattle.layout.specs.Tree.{Field, value, items, Elements, nil, elem, Items, none as no_item, item, Place}
+use Rattle.layout.specs.Tree.{value, items, Elements, nil, elem, Items, none as no_item, item, Place}
 use Rattle.layout.specs.Heads.{item_tag, item_end, undefined, item_head}
-use Rattle.layout.specs.Read.{good, elements_at, items_at, shape_of}
+use Rattle.layout.specs.Read.{good, items_at, shape_of}
 use Rattle.layout.specs.Write.{header, mark}
 use Rattle.layout.specs.Walks.{Within as Spotted, Stays, WalkedItems}
 use Rattle.layout.specs.declared.Container.{Container}
@@ -31,19 +29,19 @@ use Rattle.layout.specs.declared.Shape.TheVariants.{Fine, Fault}
 use Rattle.layout.proofs.ReadLaws.{was-wrong, was-over, was-item}
 use Rattle.ledger.specs.Slots.{slots_of}
 use Rattle.treatment.specs.Settings.{Settings}
-use Rattle.treatment.specs.Fates.{is_top, fate_of, fate, walks_into, below}
+use Rattle.treatment.specs.Fates.{fate, walks_into, below}
 use Rattle.treatment.specs.declared.Level.{Level}
 use Rattle.treatment.specs.declared.Fate.{Fate}
 use Rattle.treatment.specs.declared.Fate.TheVariants.{Walked}
 use Rattle.treatment.proofs.FatesLaws.{fate-walked}
-use Rattle.kept.specs.Counts.{counts, plus, one}
-use Rattle.kept.specs.Faults.{field_fault, first_fault, items_fault}
+use Rattle.kept.specs.Counts.{one}
+use Rattle.kept.specs.Faults.{field_fault}
 use Rattle.write_markers.specs.Gains.{all_markers, gained}
 use Rattle.write_values.proofs.ElementLaws.{length-header}
-use Rattle.write_state.specs.Bounds.{per_byte, one_element, marked_element, one_mark, one_item}
+use Rattle.write_state.specs.Bounds.{one_element, marked_element, one_mark, one_item}
 use Rattle.write_state.specs.Passed.{State, say, count, passed, passed_one, passed_items}
 use Rattle.write_state.specs.Steps.{at_place, one_kept}
-use Rattle.write_state.specs.Wrote.{met, Holds, Ends, Within, Pass, Wrote, ReadElements, ReadItems, ElementPass, ElementsPass, PlainPass, ActPass, SequencePass, WalkedPass, ShutPass, ItemsPass, ItemPass, Gaining}
+use Rattle.write_state.specs.Wrote.{met, Ends, Within, Pass, Wrote, ReadItems, ElementsPass, PlainPass, ActPass, SequencePass, WalkedPass, ShutPass, ItemsPass, ItemPass, Gaining}
 use Rattle.write_state.specs.declared.Progress.{Progress}
 use Rattle.write_state.specs.declared.Walk.{Walk}
 use Rattle.write_state.specs.declared.Walk.TheVariants.{Stop, To}

@@ -7,7 +7,7 @@ use mathlib.Core.Path.{◌≡◌, refl, sym, ap, ap₂, subst, ◌∙◌}
 use mathlib.Core.Bool.{false}
 use mathlib.Core.List.{List, [], map}
 use mathlib.Core.Option.{none}
-use Prim.Native.Nat.{ℕ, suc, ◌+◌, ◌*◌, ◌≤◌, ◌<◌}
+use Prim.Native.Nat.{ℕ, suc, ◌+◌, ◌*◌, ◌≤◌}
 use native.Mathlib.Omega.{arith}
 use lib.ListN.{length}
 use Rattle.buffer.specs.Buffer.{laid}
@@ -22,12 +22,11 @@ use Rattle.ledger.specs.Slots.{slot_size, slots_of, slot_of, slots_in, flat}
 use Rattle.ledger.proofs.SlotLaws.{length-slots_in, flat-slots_in, slots_of-fits}
 use Rattle.ledger.proofs.LaidLaws.{laid-same}
 use Rattle.treatment.specs.Settings.{Settings}
-use Rattle.treatment.specs.declared.Level.{Level}
 use Rattle.treatment.specs.declared.Level.TheVariants.{Top}
 use Rattle.kept.specs.Content.{map_content, uids_in}
 use Rattle.kept.specs.Kept.{kept_of}
 use Rattle.kept.specs.Numbering.{numbered}
-use Rattle.kept.specs.Written.{written_of, export, written}
+use Rattle.kept.specs.Written.{export, written}
 use Rattle.kept.specs.Counts.{counts, nothing, plus, counts_of}
 use Rattle.kept.specs.Faults.{first_fault}
 use Rattle.kept.proofs.ContentLaws.{uids_in-map}
@@ -35,7 +34,7 @@ use Rattle.outcome.specs.Input.{Input, read_as, tree_in, tree_of, content, in_us
 use Rattle.write_markers.specs.Gains.{all_markers, with_markers_if}
 use Rattle.write_markers.proofs.GainsLaws.{with_markers-start}
 use Rattle.layout.specs.Walks.{container}
-use Rattle.write_state.specs.Passed.{State, slotted, tree_for, passed}
+use Rattle.write_state.specs.Passed.{State, tree_for, passed}
 use Rattle.write_state.specs.Wrote.{Holds, Ends, Within, Wrote, ElementsPass}
 use Rattle.write_walk.specs.Whole.{Ended, Whole}
 use Rattle.write_state.specs.declared.Progress.{Progress}

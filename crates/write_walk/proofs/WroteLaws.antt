@@ -6,9 +6,9 @@
 --     wrote-stop       where the first of two comes to no end, neither do both
 --     Going            the invariant of a loop: what was to be passed at its start is what is to be passed from here on
 --     going-start, going-turn, going-end    where the loop begins; a turn of it; the last one
-use mathlib.Core.Path.{◌≡◌, refl, sym, ap, ◌∙◌}
+use mathlib.Core.Path.{◌≡◌, refl, ◌∙◌}
 use mathlib.Core.List.{List}
-use Prim.Native.Nat.{ℕ, ◌+◌, ◌-◌, ◌*◌, ◌≤◌, ◌<◌}
+use Prim.Native.Nat.{ℕ, ◌+◌, ◌-◌, ◌*◌, ◌≤◌}
 use native.Mathlib.Omega.{arith}
 use lib.ListN.{length, take}
 use Rattle.ledger.specs.Slots.{slot_size, slots_of}

@@ -13,7 +13,6 @@ use Rattle.layout.specs.Tree.{Elements, Place}
 use Rattle.layout.specs.Read.{good}
 use Rattle.ledger.specs.Slots.{slot_size, slots_of, flat}
 use Rattle.treatment.specs.Settings.{Settings}
-use Rattle.treatment.specs.declared.Level.{Level}
 use Rattle.treatment.specs.declared.Level.TheVariants.{Top}
 use Rattle.kept.specs.Counts.{counts, counts_of}
 use Rattle.kept.specs.Faults.{first_fault}

@@ -3,6 +3,7 @@
 // and what stands side by side is passed over in a loop. The output is clipped at its end while the place counts on, so that whether there
 // was room is decided once, afterwards.
 #![tactic(auto)]
+
 ghost use Rattle.std.specs.Prelude.{◌≡◌, ◌+◌, ◌-◌, ◌*◌, ◌≤◌, ◌<◌, length};
 ghost use Rattle.buffer.specs.Buffer.{laid};
 ghost use Rattle.layout.specs.Limits.{longest};

@@ -3,7 +3,6 @@ use mathlib.Core.Path.{ap, ◌∙◌}
 use mathlib.Core.List.{[], ◌∷◌}
 use Rattle.treatment.specs.Fates.{fate_of}
 use Rattle.abi.specs.Numbers.{fate_number}
-use borrow.Author.Rules.{rules}
 use Rattle.abi.proofs.corravisk_action.Goals as goal
 
 pub returns : goal.returns

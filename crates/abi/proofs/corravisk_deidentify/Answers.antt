@@ -5,7 +5,6 @@ use mir.Facts.{to_z-of_z}
 use Rattle.layout.specs.Source.{explicitly}
 use Rattle.station.specs.Entry.{told, input_of}
 use Rattle.abi.proofs.ReportLaws.{told-in-numbers}
-use borrow.Author.Rules.{rules}
 use Rattle.abi.proofs.corravisk_deidentify.Goals as goal
 
 pub returns : goal.returns

@@ -1,6 +1,5 @@
 -- `abi::corravisk_view` meets its contract. Assumes nothing.
-use mathlib.Core.Path.{◌≡◌, sym, ◌∙◌}
-use borrow.Author.Rules.{rules}
+use mathlib.Core.Path.{sym, ◌∙◌}
 use Rattle.abi.proofs.corravisk_view.Goals as goal
 
 pub overflow_sub-answer : goal.overflow_sub-answer

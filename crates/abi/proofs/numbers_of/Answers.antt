@@ -1,6 +1,4 @@
 -- `abi::numbers_of` meets its contract. Assumes nothing.
-use mathlib.Core.Path.{◌≡◌, refl}
-use borrow.Author.Rules.{rules}
 use Rattle.abi.proofs.numbers_of.Goals as goal
 
 pub returns-in-Refused : goal.returns-in-Refused

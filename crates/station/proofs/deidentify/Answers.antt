@@ -8,7 +8,6 @@ use Rattle.station.specs.Entry.{told, input_of}
 use Rattle.station.proofs.EarlyLaws.{not-early, days-are}
 use Rattle.station.proofs.OrderLaws.{early-for}
 use Rattle.station.proofs.RunLaws.{refused-early, refused-judged, counted, walk-right}
-use borrow.Author.Rules.{rules}
 use native.Mathlib.Omega.{arith}
 use Rattle.station.proofs.deidentify.Goals as goal
 

@@ -3,7 +3,6 @@ use mathlib.Core.Path.{ap, ◌∙◌}
 use mir.Facts.{to_z-of_z}
 use Rattle.options.specs.Settings.{settings_fault}
 use Rattle.station.proofs.EarlyLaws.{first-1, first-2, first-3, first-4, first-4', first-5, first-none}
-use borrow.Author.Rules.{rules}
 use Rattle.station.proofs.early_refusal.Goals as goal
 
 pub returns-then-settings_fault : goal.returns-then-settings_fault

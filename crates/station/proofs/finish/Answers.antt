@@ -1,7 +1,6 @@
 -- `station::finish` meets its contract. Assumes nothing.
 use mathlib.Core.Path.{refl}
 use Rattle.station.proofs.FinishLaws.{no-slot, no-room, all-well, few-bytes}
-use borrow.Author.Rules.{rules}
 use Rattle.station.proofs.finish.Goals as goal
 
 pub returns-then-out-pos : goal.returns-then-out-pos

@@ -1,6 +1,5 @@
 -- `station::judge` meets its contract. Assumes nothing.
 use Rattle.station.proofs.JudgeLaws.{judged-shape, judged-values}
-use borrow.Author.Rules.{rules}
 use Rattle.station.proofs.judge.Goals as goal
 
 pub returns-in-Fault : goal.returns-in-Fault

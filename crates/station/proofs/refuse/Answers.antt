@@ -1,7 +1,6 @@
 -- `station::refuse` meets its contract. Assumes nothing.
 use mathlib.Core.Path.{refl, ◌∙◌}
 use Rattle.station.proofs.LeftLaws.{cleared-zeroed, left-whole, left-cleared}
-use borrow.Author.Rules.{rules}
 use native.Mathlib.Omega.{arith}
 use Rattle.station.proofs.refuse.Goals as goal
 

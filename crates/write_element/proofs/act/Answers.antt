@@ -3,7 +3,6 @@ use mir.Facts.{to_z-of_z}
 use mir.Syntax.{w32}
 use borrow.Author.Rules.{sfits_of}
 use Rattle.write_element.proofs.ActLaws.{way-removed, way-kept, way-emptied, way-dummied, way-shifted, way-full, way-renamed, way-walked, way-wrong}
-use borrow.Author.Rules.{rules}
 use Rattle.write_element.proofs.act.Goals as goal
 
 pub returns-in-Removed : goal.returns-in-Removed

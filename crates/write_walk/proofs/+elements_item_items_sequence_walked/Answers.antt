@@ -3,25 +3,18 @@
 use mathlib.Core.Path.{ap, sym, ◌∙◌}
 use Rattle.vr.specs.Names.{SQ}
 use Rattle.layout.specs.Heads.{undefined}
-use Rattle.layout.specs.Source.{explicitly}
-use Rattle.buffer.proofs.Laws.{length-laid}
 use Rattle.layout.specs.Walks.{Inside, Within}
 use Rattle.layout.specs.declared.Head.TheVariants.{Plain, Seq}
 use Rattle.layout.specs.declared.Spot.TheVariants.{Item}
-use Rattle.treatment.specs.Settings.{settings_of}
 use Rattle.treatment.specs.Fates.{is_top}
 use Rattle.write_markers.proofs.PartLaws.{gained-length}
 use Rattle.write_values.proofs.ElementLaws.{length-header}
-use Rattle.write_state.specs.Wrote.{met, ElementsPass, ItemsPass}
-use Rattle.write_state.specs.declared.Progress.{Progress}
-use Rattle.write_walk.proofs.WroteLaws.{Going, going-start, going-turn, going-end, wrote-stop, turn-past, turn-bound}
-use Rattle.write_walk.proofs.SplitLaws.{onward, split-plain, split-seq, split-item, wrote-bad, wrote-end, wrote-wrong, wrote-over}
+use Rattle.write_state.specs.Wrote.{met}
+use Rattle.write_walk.proofs.WroteLaws.{going-start, going-turn, going-end, wrote-stop, turn-past, turn-bound}
+use Rattle.write_walk.proofs.SplitLaws.{split-plain, split-seq, split-item, wrote-bad, wrote-end, wrote-wrong, wrote-over}
 use Rattle.write_walk.proofs.StepLaws.{sequence-walked, sequence-shut, walked-wrong, walked-over, walked-item, item-stop, item-done}
-use lib.ListN.{length}
-use Prim.Native.Nat.{◌+◌, ◌-◌, ◌*◌}
-use borrow.Author.Rules.{rules}
+use Prim.Native.Nat.{◌+◌}
 use native.Mathlib.Omega.{arith}
-use Prim.Native.Nat.{ℕ, ◌<◌}
 use Rattle.write_walk.proofs.+elements_item_items_sequence_walked.Goals as goal
 
 pub elements-loop-past-init : goal.elements-loop-past-init

@@ -1,7 +1,6 @@
 -- `write_walk::gain` meets its contract. Assumes nothing.
 use mathlib.Core.Path.{◌∙◌, ap}
 use Rattle.write_state.specs.Steps.{at_place}
-use borrow.Author.Rules.{rules}
 use Rattle.write_walk.proofs.gain.Goals as goal
 
 pub returns : goal.returns

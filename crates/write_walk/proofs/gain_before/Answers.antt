@@ -5,7 +5,6 @@ use Prim.Native.Nat.{◌+◌}
 use Rattle.buffer.proofs.Laws.{laid-none}
 use Rattle.treatment.specs.Fates.{is_top}
 use Rattle.write_markers.specs.Gains.{gained_if}
-use borrow.Author.Rules.{rules}
 use native.Mathlib.Omega.{arith}
 use Rattle.write_walk.proofs.gain_before.Goals as goal
 

@@ -4,9 +4,7 @@ use Prim.Native.Nat.{◌+◌}
 use Rattle.treatment.specs.Fates.{is_top}
 use Rattle.write_markers.proofs.PartLaws.{gained-length}
 use Rattle.write_state.specs.Wrote.{met}
-use Rattle.write_state.specs.declared.Progress.{Progress}
 use Rattle.write_walk.proofs.StepLaws.{plain-act}
-use borrow.Author.Rules.{rules}
 use native.Mathlib.Omega.{arith}
 use Rattle.write_walk.proofs.plain.Goals as goal
 

@@ -2,7 +2,6 @@
 use Rattle.layout.specs.Walks.{Stays}
 use Rattle.layout.specs.declared.Shape.TheVariants.{Fine}
 use Rattle.write_walk.proofs.StepLaws.{shut-fault, shut-act}
-use borrow.Author.Rules.{rules}
 use native.Mathlib.Omega.{arith}
 use Rattle.write_walk.proofs.shut.Goals as goal
 

@@ -1,6 +1,5 @@
 -- `write_walk::write` meets its contract. Assumes nothing.
 use Rattle.write_walk.proofs.WholeLaws.{whole}
-use borrow.Author.Rules.{rules}
 use native.Mathlib.Omega.{arith}
 use Rattle.write_walk.proofs.write.Goals as goal
 
