@@ -1,9 +1,9 @@
 -- The order of the conditions, in the entry's own steps: 1 to 5, then shape and values, then 13 and 14. No contract cites this file.
 -- Assumes nothing.
 --     joined x y           the outcome x, or y where x is done
---     early_outcome n       the outcome of a number of `early`
---     shape_outcome r       the outcome of a judgement of shape and values
---     end_outcome i         the outcome by the slots and the room
+--     early_outcome n      the outcome of a number of `early`
+--     shape_outcome r      the outcome of a judgement of shape and values
+--     end_outcome i        the outcome by the slots and the room
 --     outcome-is-joined    the outcome is these three, one after the other
 use mathlib.Core.Path.{◌≡◌, refl, sym, ap, ap₂, ◌∙◌}
 use mathlib.Core.Bool.{Bool, true, false, not, ◌&&◌, ◌||◌}
