@@ -8,7 +8,6 @@
 --     exports-exactly      both halves: just what an accepted run leaves stands in the relations
 use mathlib.Core.Path.{◌≡◌, refl, sym, ap, subst, ◌∙◌}
 use mathlib.Core.Logic.{◌≢◌, ◌⊎◌, inl, inr}
-use mathlib.Core.Bool.{false, true}
 use mathlib.Core.List.Memᴰ
 use mathlib.Core.List.{List, [], ◌∷◌, ◌++◌}
 use mathlib.Core.Option.{Option, none, some}
@@ -37,7 +36,7 @@ use Rattle.kept.specs.Faults.{Fault, value_fault, at, first, sequence_fault, fie
 use Rattle.kept.specs.Counts.{Counts}
 use Rattle.outcome.specs.Input.{Input, read_as, tree_of, slots_after, bytes_for}
 use Rattle.outcome.specs.Conditions.{Condition, fault_is, value_is, shape_condition, value_condition, condition13, condition14, conditions}
-use Rattle.outcome.specs.Outcome.{Report, done, first_of, outcome_of, report_of, output_of, ledger_of}
+use Rattle.outcome.specs.Outcome.{Report, done, first_of, outcome_of}
 use Rattle.promises.specs.Demand1.{NoneHolds}
 use Rattle.promises.specs.Treated.{WalkedInto, AsD, Becomes, same, emptied_listed, emptied as empties, emptied_sequence, dummied_listed, dummied as dummies, dummied_sequence, renamed as renames, date, date_time, Treated, TreatedItems}
 use Rattle.promises.specs.Demand2.{Exports, EarlyClear, Demand2Other, Demand2Exactly}

@@ -3,7 +3,6 @@
 -- together, and the bytes that were written are read back. No contract cites this file. Assumes nothing.
 --     demand2     THE THEOREM
 use mathlib.Core.Path.{◌≡◌, sym, ap, subst, ◌∙◌}
-use mathlib.Core.Bool.{true}
 use mathlib.Core.List.{List, ◌++◌}
 use Prim.Native.Nat.{ℕ, suc, ◌-◌}
 use native.Mathlib.Omega.{arith}
@@ -15,7 +14,6 @@ use Rattle.layout.specs.Source.{explicitly}
 use Rattle.layout.specs.Tree.{Elements, Place, Data, bare}
 use Rattle.layout.specs.Read.{good, with, read}
 use Rattle.layout.proofs.MadeLaws.{read-made}
-use Rattle.treatment.specs.declared.Level.{Level}
 use Rattle.treatment.specs.declared.Level.TheVariants.{Top}
 use Rattle.kept.specs.Content.{Content, map_content, uids_in}
 use Rattle.kept.specs.Counts.{Counts, counts_of}

@@ -3,40 +3,36 @@
 --     run-bytes, run-slots     one accepted run: what it leaves, and the slots in use afterwards
 --     batch                    a whole batch
 --     demand3                  THE THEOREM
-use mathlib.Core.Path.{◌≡◌, refl, sym, ap, ap₂, subst, ◌∙◌}
-use mathlib.Core.Logic.{◌↔◌}
+use mathlib.Core.Path.{◌≡◌, refl, sym, ap, ap₂, ◌∙◌}
 use mathlib.Core.Bool.{true}
 use mathlib.Core.List.Memᴰ
 use mathlib.Core.List.{List, [], ◌∷◌, ◌++◌, map, append_assoc, head-eq_of_cons-eq, tail-eq_of_cons-eq}
-use Prim.Native.Nat.{ℕ, zero, suc, ◌+◌, ◌-◌, ◌*◌, ◌≤◌}
+use Prim.Native.Nat.{ℕ, ◌≤◌}
 use native.Mathlib.Omega.{arith}
-use lib.ListN.{length, take, drop, replicate, length-map}
+use lib.ListN.{length, length-map}
 use lib.Seq.{take_at, drop_at, take-append_seam}
 use Rattle.basis.specs.Bytes.{AllBytes}
 use Rattle.layout.specs.Limits.{deepest}
-use Rattle.layout.specs.Tree.{Elements, Place}
 use Rattle.layout.specs.Source.{Source}
-use Rattle.layout.specs.Read.{Result, good, fault, read}
+use Rattle.layout.specs.Read.{read}
 use Rattle.layout.proofs.MadeLaws.{read-made}
 use Rattle.uid.specs.Uid.{is_root}
 use Rattle.ledger.specs.FirstMet.{learns, same_uid}
-use Rattle.ledger.specs.Slots.{slot_size, most_slots, slots_of, slot_of, slots_in, flat}
+use Rattle.ledger.specs.Slots.{slot_size, most_slots, slot_of, slots_in, flat}
 use Rattle.ledger.proofs.SlotLaws.{Sized, slots_of-most, learns-slots}
 use Rattle.treatment.specs.Settings.{Settings}
-use Rattle.treatment.specs.declared.Level.{Level}
 use Rattle.treatment.specs.declared.Level.TheVariants.{Top}
-use Rattle.kept.specs.Content.{Content, map_content, uids_in}
-use Rattle.kept.specs.Kept.{Uid, kept_of}
+use Rattle.kept.specs.Content.{Content, uids_in}
+use Rattle.kept.specs.Kept.{Uid}
 use Rattle.kept.specs.Numbering.{numbered, numbered_all}
-use Rattle.kept.specs.Renaming.{OneRenaming}
 use Rattle.kept.specs.Written.{written}
 use Rattle.kept.proofs.WrittenLaws.{Numbered, written-inj}
 use Rattle.kept.proofs.KeptLaws.{kept-numbered}
 use Rattle.kept.proofs.UidsLaws.{AllUids, kept-uids, learns-uids, uids-no_zero, sized-uids}
 use Rattle.kept.proofs.NumberingLaws.{numbered-slots, numbered-one-renaming}
-use Rattle.outcome.specs.Input.{Input, read_as, tree_in, tree_of, content, in_use, slots_after, bytes_for}
-use Rattle.outcome.specs.Outcome.{Outcome, done, outcome_of, report_for, report_of, output_for, output_of, ledger_for, ledger_of, filled_up}
-use Rattle.outcome.proofs.OutcomeLaws.{Accepted, accepted}
+use Rattle.outcome.specs.Input.{read_as, tree_in, tree_of, content, slots_after, bytes_for}
+use Rattle.outcome.specs.Outcome.{done, outcome_of, report_of, output_of, ledger_of}
+use Rattle.outcome.proofs.OutcomeLaws.{accepted}
 use Rattle.promises.specs.Demand3.{content_of, started, exported, Ran, none, next, Demand3}
 
 -- ---- the slots that were written are the slots that are read

@@ -25,7 +25,6 @@ use Rattle.ledger.specs.Slots.{slot_size, most_slots, slot_of, flat}
 use Rattle.ledger.proofs.FirstMetLaws.{learns-begins, learns-member, stands_for, stands_for-number_of}
 use Rattle.ledger.proofs.RenameLaws.{map-agree, learns-rename}
 use Rattle.ledger.proofs.SlotLaws.{Sized, slots_of-fits, slots_of-most, unslot, unslot-slot_of, slot_of-inj, flat-slots_in, flat-append, length-flat, sized-slots_in, sized-learns}
-use Rattle.treatment.specs.declared.Level.{Level}
 use Rattle.treatment.specs.declared.Level.TheVariants.{Top}
 use Rattle.kept.specs.Content.{Content, map_content, uids_in}
 use Rattle.kept.specs.Numbering.{numbered}

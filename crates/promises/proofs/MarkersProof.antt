@@ -10,7 +10,7 @@ use Prim.Native.Nat.{ℕ}
 use native.Mathlib.Omega.{arith}
 use lib.Dec.{ltb}
 use borrow.Author.Tests.{ltb-true, ltb-false}
-use Rattle.basis.specs.Choice.{fork, among}
+use Rattle.basis.specs.Choice.{among}
 use Rattle.basis.specs.Text.{ascii}
 use Rattle.vr.specs.Names.{CS, SQ}
 use Rattle.layout.specs.Tree.{Field, value, items, nil, elem, Items, none as no_item, item, Data}

@@ -3,7 +3,7 @@
 --     judge-one            the first fault of shape or among the values
 --     refuse-one           a refusal: the answer, the output and the ledger
 --     finish-one           what follows the walk that writes: the answer, the output and the ledger
-use mathlib.Core.Path.{◌≡◌, refl, sym, ap, ◌∙◌}
+use mathlib.Core.Path.{◌≡◌, refl}
 use mathlib.Core.List.{[]}
 use Prim.Native.Nat.{ℕ}
 use lib.IntN.{ℤ}

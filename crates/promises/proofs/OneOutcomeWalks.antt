@@ -23,7 +23,6 @@ use Rattle.layout.specs.declared.Shape.{Shape}
 use Rattle.uid.specs.Value.{uids_of}
 use Rattle.buffer.proofs.Laws.{length-laid}
 use Rattle.ledger.specs.Slots.{slots_of, flat}
-use Rattle.treatment.specs.declared.Level.{Level}
 use Rattle.treatment.specs.declared.Level.TheVariants.{Top}
 use Rattle.treatment.specs.declared.Fate.{Fate}
 use Rattle.treatment.specs.Settings.{Settings, settings_of, Given}

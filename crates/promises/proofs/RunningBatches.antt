@@ -3,7 +3,7 @@
 --     ran               data sets that calls of the station ran, ran in the words of `specs/Demand3.antt`
 --     running-demand3   DEMAND 3
 use mathlib.Core.Path.{◌≡◌, sym, ap, ap₂, subst, ◌∙◌}
-use mathlib.Core.List.{List, [], ◌∷◌}
+use mathlib.Core.List.{List, ◌∷◌}
 use Prim.Native.Nat.{ℕ}
 use lib.ListN.{length, take}
 use Rattle.basis.specs.Bytes.{AllBytes}

@@ -14,7 +14,7 @@ use Rattle.treatment.specs.Settings.{Settings}
 use Rattle.outcome.specs.Input.{Input}
 use Rattle.outcome.specs.Outcome.{Outcome, refused, done, Report, outcome_of, report_for, report_of, output_of, ledger_of}
 use Rattle.abi.specs.Numbers.{report_numbers}
-use Rattle.promises.specs.Demand3.{started, Ran, none, next}
+use Rattle.promises.specs.Demand3.{started, Ran, none}
 use Rattle.promises.specs.Running.{Lent, input}
 use Rattle.promises.specs.RunningC.{Calls, report_in, outcome_by, outcome_in, CDemand1, CDemand2, CDemand2Other, RanByC, none as none-by, next as next-by, CDemand3}
 use Rattle.promises.proofs.ReportLaws.{report-eq}

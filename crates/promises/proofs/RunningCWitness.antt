@@ -1,6 +1,6 @@
 -- The premises of the demands for the C function can be met, as those for the station: `RunningWitness.antt`. Assumes nothing.
 --     can-call      whatever a call is lent, there is what its contract lets it leave
---     call_of-c     an accepted run of the definitions is an accepted call
+--     call_of-c      an accepted run of the definitions is an accepted call
 --     ran-by-c      a batch that ran in the words of `specs/Demand3.antt` was run by such calls
 --     batch-by-c    such a batch, of two data sets
 use mathlib.Core.Path.{◌≡◌, refl, sym, ap}
@@ -15,7 +15,7 @@ use Rattle.treatment.specs.Settings.{Settings}
 use Rattle.outcome.specs.Input.{Input}
 use Rattle.outcome.specs.Outcome.{Outcome, done, outcome_of, report_for, report_of, output_of, ledger_of}
 use Rattle.abi.specs.Numbers.{report_numbers}
-use Rattle.promises.specs.Demand3.{started, exported, Ran, none, next}
+use Rattle.promises.specs.Demand3.{started, Ran, none, next}
 use Rattle.promises.specs.Running.{Lent, input}
 use Rattle.promises.specs.RunningC.{Calls, CCall, RanByC, none as none-by-c, next as next-by-c}
 use Rattle.promises.proofs.Witness as witness

@@ -30,7 +30,7 @@ use Rattle.kept.specs.Markers.{insert, with_markers}
 use Rattle.kept.specs.Written.{export, written}
 use Rattle.refusals.specs.Refusals.{no_room}
 use Rattle.outcome.specs.Input.{Input, bytes_for}
-use Rattle.outcome.specs.Outcome.{Outcome, refused, done, Report, outcome_of, report_for, report_of, output_of, ledger_of}
+use Rattle.outcome.specs.Outcome.{Outcome, refused, done, outcome_of, report_for, report_of, output_of, ledger_of}
 use Rattle.station.specs.Entry.{report}
 use Rattle.station.specs.declared.HandedBack.{HandedBack}
 use Rattle.station.specs.declared.HandedBack.TheVariants.{Refused, Done}

@@ -7,8 +7,8 @@ use mathlib.Core.Path.{◌≡◌, refl, sym, ap, subst, ◌∙◌}
 use mathlib.Core.Logic.{◌≢◌, ◌⊎◌, inl, inr, ⊎_elim}
 use mathlib.Core.Bool.{Bool, true, false, ◌||◌, false≢true}
 use mathlib.Core.List.{List, [], ◌∷◌, ◌++◌}
-use mathlib.Core.Option.{Option, none, some, none-ne-some}
-use Prim.Native.Nat.{ℕ, zero, suc, ◌+◌, ◌-◌, ◌<◌, ◌%◌}
+use mathlib.Core.Option.{Option, none, some}
+use Prim.Native.Nat.{ℕ, ◌+◌, ◌-◌, ◌<◌, ◌%◌}
 use native.Mathlib.Omega.{arith}
 use lib.Dec.{eqb}
 use lib.ListN.{length}
@@ -37,7 +37,7 @@ use Rattle.kept.specs.Kept.{Uid, or_none, held_uids, kept_value, kept_sequence, 
 use Rattle.kept.specs.Fillers.{spaced, listed, or, emptied_as, dummied_as}
 use Rattle.kept.specs.Written.{shifted_as, written_field, written_of, written_items}
 use Rattle.kept.specs.Counts.{Counts, counts, nothing, plus, one, inside, counts_field, counts_of, counts_items}
-use Rattle.kept.specs.Faults.{Fault, value_fault, at as fault_at, first, sequence_fault, field_fault, first_fault, items_fault}
+use Rattle.kept.specs.Faults.{Fault, value_fault, sequence_fault, field_fault, first_fault, items_fault}
 use Rattle.treatment.proofs.FatesLaws.{fate-walked, fate-renamed, fate-shifted, fate-kept, fate-wrong}
 use Rattle.kept.proofs.FillersLaws.{lengths_below-other}
 use Rattle.kept.proofs.KeptLaws.{first-none, at-none, unpicked, Stays}

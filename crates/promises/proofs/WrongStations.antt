@@ -22,7 +22,6 @@ use Rattle.layout.specs.Tree.{nil}
 use Rattle.layout.specs.Write.{mark, header, put_elements, put_field, put_sequence, put_items, bytes_of}
 use Rattle.options.specs.Options.{chosen_in}
 use Rattle.options.specs.Settings.{date_word}
-use Rattle.treatment.specs.declared.Level.{Level}
 use Rattle.treatment.specs.declared.Level.TheVariants.{Top}
 use Rattle.kept.specs.Counts.{counts, counts_of}
 use Rattle.kept.specs.Fillers.{spaced}
