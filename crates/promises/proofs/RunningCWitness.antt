@@ -1,6 +1,6 @@
 -- The premises of the demands for the C function can be met, as those for the station: `RunningWitness.antt`. Assumes nothing.
 --     can-call      whatever a call is lent, there is what its contract lets it leave
---     call_of-c      an accepted run of the definitions is an accepted call
+--     call_of-c     an accepted run of the definitions is an accepted call
 --     ran-by-c      a batch that ran in the words of `specs/Demand3.antt` was run by such calls
 --     batch-by-c    such a batch, of two data sets
 use mathlib.Core.Path.{◌≡◌, refl, sym, ap}

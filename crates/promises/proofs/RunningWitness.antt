@@ -1,12 +1,12 @@
 -- The premises of the running demands can be met: the station's contract leaves an answer to whatever a call is lent, and what the definitions
 -- accept is a call that is done. That the station gives that answer is what its proof says, not this file. The same for the C function:
 -- `RunningCWitness.antt`. Assumes nothing.
---     answer x                what a call may answer that was lent x
---     can-run                 it may: the contract asks for nothing that can't be had
+--     answer x                 what a call may answer that was lent x
+--     can-run                  it may: the contract asks for nothing that can't be had
 --     to, lent_for, is-lent    what a call is lent for an input of the definitions
 --     call_of                  an accepted run of the definitions is an accepted call: the premises of running demand 2
---     ran-by                  a batch that ran in the words of `specs/Demand3.antt` was run by calls: the premises of running demand 3
---     batch-by                such a batch, of two data sets
+--     ran-by                   a batch that ran in the words of `specs/Demand3.antt` was run by calls: the premises of running demand 3
+--     batch-by                 such a batch, of two data sets
 use mathlib.Core.Path.{◌≡◌, refl, sym, ap, ap₂, ◌∙◌}
 use mathlib.Core.List.{List, [], ◌∷◌}
 use Prim.Native.Nat.{ℕ}

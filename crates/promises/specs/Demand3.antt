@@ -1,7 +1,7 @@
 -- The customer's third demand. Two batches of equally many data sets, all accepted, are run in order with the same settings, each from a
 -- ledger with no entries. The outputs are equal byte for byte exactly when the batches hold the same kept content up to one one_to_one
 -- renaming of the replaced UIDs that holds for the whole batch. Proof: `proofs/Demand3Proof.antt`. Assumes nothing.
---     content_of s x            the kept content of the data set x under the settings s
+--     content_of s x           the kept content of the data set x under the settings s
 --     started s l n room x     what a run is handed: the data set x, the settings, the ledger l with n entries in use, and room for the output
 --     exported i               what the run leaves: as many bytes of the output as it reports
 --     Ran s l n xs outs        the data sets xs were run in order, from the ledger l with n entries in use; each was accepted and was handed

@@ -1,6 +1,6 @@
 -- The ledger after a run, and the numbers of UIDs: document 01, "UIDs, dates, lists", 3rd to 7th sentence; as relations. Assumes nothing.
---     TakesSlots ks us ls               the slots in use are ks before the UIDs us were met, one after the other, and ls afterwards
---     Numbered k ks n                   the first of the slots ks that is k has the number n, counted from 1
+--     TakesSlots ks us ls                the slots in use are ks before the UIDs us were met, one after the other, and ls afterwards
+--     Numbered k ks n                    the first of the slots ks that is k has the number n, counted from 1
 --     LedgerAfter i r l us number_for    what the ledger l and the reported count are after a run that renamed the UIDs us, and what number each has
 use Rattle.std.specs.Prelude.{◌≡◌, ◌≢◌, ℕ, zero, suc, ◌-◌, ◌*◌, ◌≤◌, length, take, replicate}
 use mathlib.Core.List.{List, [], ◌∷◌, ◌++◌, Memᴰ}
