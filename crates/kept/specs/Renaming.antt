@@ -1,4 +1,4 @@
--- Two batches that are one but for their UIDs: demand 3, "up to one one_to_one renaming of their replaced UIDs that holds for the whole
+-- Two batches that are one but for their UIDs: demand 3, "up to one one-to-one renaming of their replaced UIDs that holds for the whole
 -- batch"; document 01, "UIDs, dates, lists", and "Kept content and the four counts". The UIDs of kept content are the replaced ones.
 -- Laws: `proofs/NumberingLaws.antt`. Assumes nothing.
 --     OneRenaming cs ds     one renaming takes each content of the batch cs to the content of ds in its place

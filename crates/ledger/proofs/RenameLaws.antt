@@ -1,7 +1,7 @@
--- UIDs that are renamed one_to_one keep their places and numbers, and UIDs of equal numbers are renamed ones: laws of
+-- UIDs that are renamed one-to-one keep their places and numbers, and UIDs of equal numbers are renamed ones: laws of
 -- `specs/FirstMet.antt` between two types that stand for UIDs. No contract cites this file. Assumes nothing.
 --     map-agree, map-member                   functions that agree on the members of a list; one that keeps a list
---     Undone f g l                            g undoes f on the UIDs of l, so that f is one_to_one there
+--     Undone f g l                            g undoes f on the UIDs of l, so that f is one-to-one there
 --     undone-learn, undone-learns             as UIDs are learnt
 --     first_at-rename, number_of-rename, learn-rename, learns-rename
 --     numbers-rename                          renamed UIDs get the same numbers

@@ -1,5 +1,5 @@
 -- The customer's third demand. Two batches of equally many data sets, all accepted, are run in order with the same settings, each from a
--- ledger with no entries. The outputs are equal byte for byte exactly when the batches hold the same kept content up to one one_to_one
+-- ledger with no entries. The outputs are equal byte for byte exactly when the batches hold the same kept content up to one one-to-one
 -- renaming of the replaced UIDs that holds for the whole batch. Proof: `proofs/Demand3Proof.antt`. Assumes nothing.
 --     content_of s x           the kept content of the data set x under the settings s
 --     started s l n room x     what a run is handed: the data set x, the settings, the ledger l with n entries in use, and room for the output

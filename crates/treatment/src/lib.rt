@@ -3,7 +3,7 @@
 
 ghost use Rattle.std.specs.Prelude.{◌≡◌};
 ghost use Rattle.table.specs.Rows.{table};
-ghost use Rattle.treatment.specs.Fates.{is_top, as_d, by_action, fate_of, walks_into, below as belowOf};
+ghost use Rattle.treatment.specs.Fates.{is_top, as_d, by_action, fate_of, walks_into, below as below_of};
 
 use table::Action;
 
@@ -74,7 +74,7 @@ pub fn walks_into(fate: Fate) -> bool
 
 // The level of what stands in the items of a sequence of this fate.
 pub fn below(fate: Fate, level: Level) -> Level
-    ensures { result ≡ belowOf fate level }
+    ensures { result ≡ below_of fate level }
 {
     match level {
         Level::Top => Level::Inner,
