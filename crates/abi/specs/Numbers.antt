@@ -1,9 +1,9 @@
 -- The numbers that the C interface hands back. Assumes nothing.
---     view_numbers a     the five numbers of `corravisk_view`: refusal, offset, found, start, length
---     report_numbers r   the eight numbers of `corravisk_deidentify`: refusal, offset, length, count in use, kept, replaced, renamed, removed
---     fate_number f          the number of a fate
---     level_meant n      the level that the number means: 1 is the top
---     action_numbers     the one number of `corravisk_action`: the fate of an element by the option number, its level (1 is the top), tag and VR
+--     view_numbers a      the five numbers of `corravisk_view`: refusal, offset, found, start, length
+--     report_numbers r    the eight numbers of `corravisk_deidentify`: refusal, offset, length, count in use, kept, replaced, renamed, removed
+--     fate_number f       the number of a fate
+--     level_meant n       the level that the number means: 1 is the top
+--     action_numbers      the one number of `corravisk_action`: the fate of an element by the option number, its level (1 is the top), tag and VR
 use Rattle.std.specs.Prelude.{List, [], ◌∷◌, ℕ, eqb}
 use Rattle.basis.specs.Choice.{pick}
 use Rattle.view.specs.View.{refusal_of, offset_of, found_of, start_of, length_of}

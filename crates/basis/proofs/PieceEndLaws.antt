@@ -1,7 +1,7 @@
 -- Laws of `first_piece` and `piece_end` of `specs/Pieces.antt`. No contract cites this file. Assumes nothing.
---     first_piece-cons, first_piece-none, first_piece-stop, first_piece-append     the first piece, byte by byte
+--     first_piece-cons, first_piece-none, first_piece-stop, first_piece-append    the first piece, byte by byte
 --     Cuts, cuts                               a text is one piece, or a piece, a backslash and the rest
---     PieceEnd, piece_end-is                    what the end of a piece shows of the pieces
+--     PieceEnd, piece_end-is                   what the end of a piece shows of the pieces
 --     pieces-last, pieces-more                 the piece is the last; others follow it
 --     piece-more, piece-found, piece-last      the loop of `piece_end`: another byte; a backslash; the end
 use mathlib.Core.Path.{◌≡◌, refl, sym, ap, ◌∙◌, subst}

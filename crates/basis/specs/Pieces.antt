@@ -1,11 +1,11 @@
 -- A value that holds several: document 01, "UIDs, dates, lists", where UIDs and dates are joined by backslashes. Assumes nothing.
---     backslash       the byte 5C hex
---     pieces v        v cut at its backslashes: one piece more than there are backslashes, so the one empty piece where v is empty
---     joined us       the pieces us with a backslash between each two
---     after us        the pieces us with a backslash before each
---     on_first x us    us with x in front of its first piece
---     first_piece v          what stands before the first backslash of v
---     piece_end s a stop     where the piece of s that begins at a ends: at a backslash, or at stop
+--     backslash             the byte 5C hex
+--     pieces v              v cut at its backslashes: one piece more than there are backslashes, so the one empty piece where v is empty
+--     joined us             the pieces us with a backslash between each two
+--     after us              the pieces us with a backslash before each
+--     on_first x us         us with x in front of its first piece
+--     first_piece v         what stands before the first backslash of v
+--     piece_end s a stop    where the piece of s that begins at a ends: at a backslash, or at stop
 use Rattle.std.specs.Prelude.{List, [], ◌∷◌, ◌++◌, ℕ, ◌+◌, eqb, length, get_or}
 use Rattle.basis.specs.Choice.{fork}
 use Rattle.basis.specs.Bytes.{part}

@@ -1,8 +1,8 @@
 -- A text in quotes, as the bytes that spell it, bytes as a paper prints them, and decimal digits. Laws: `proofs/TextLaws.antt`. Assumes nothing.
---     ascii t     the codes of the characters of t, in order
---     hex t       the bytes that t has in hexadecimal, two digits each, with blanks between them
---     digit0, digit9     the bytes 30 and 39 hex: the characters 0 and 9
---     is_digit x   the byte x is a decimal digit
+--     ascii t           the codes of the characters of t, in order
+--     hex t             the bytes that t has in hexadecimal, two digits each, with blanks between them
+--     digit0, digit9    the bytes 30 and 39 hex: the characters 0 and 9
+--     is_digit x        the byte x is a decimal digit
 use Rattle.std.specs.Prelude.{Bool, ◌&&◌, List, [] as []ᴸ, ◌∷◌ as ◌∷ᴸ◌, ℕ, ◌+◌, ◌-◌, ◌*◌, eqb, leb}
 use Prim.Native.Char.{Char, code}
 use Prim.Native.String.{String, [], ◌∷◌}

@@ -1,16 +1,16 @@
 -- Laws of `specs/Values.antt`. No contract cites this file. Assumes nothing.
---     dates_end-le              the dates end in the value
---     length-shifted_text       the text is as long as the value, whatever the value is
---     dates_end-shifted         and its dates end at the same place, where all of them can be moved
---     shifted_value-nil         an empty value stays empty
---     shifted_value-is          what `shifted_value` says; `is-shifted_value` the other way
---     shifted_value-text        a value that is not refused is written as `shifted_text`
+--     dates_end-le             the dates end in the value
+--     length-shifted_text      the text is as long as the value, whatever the value is
+--     dates_end-shifted        and its dates end at the same place, where all of them can be moved
+--     shifted_value-nil        an empty value stays empty
+--     shifted_value-is         what `shifted_value` says; `is-shifted_value` the other way
+--     shifted_value-text       a value that is not refused is written as `shifted_text`
 --     shifted_value-refused, shifted_value-good    what the answer of `date_fault` says
---     shifted_value-length      its text is as long as it
---     shifted_value-back        the text, shifted back, is the value again
---     shifted_value-inj         two values that are shifted to one text are one value
---     shifted_value-zero        a value that some shift takes is left as it is by a shift of 0
---     shifted_value-again       so is the text of a shifted value
+--     shifted_value-length     its text is as long as it
+--     shifted_value-back       the text, shifted back, is the value again
+--     shifted_value-inj        two values that are shifted to one text are one value
+--     shifted_value-zero       a value that some shift takes is left as it is by a shift of 0
+--     shifted_value-again      so is the text of a shifted value
 use mathlib.Core.Path.{◌≡◌, refl, sym, ap, ap₂, ◌∙◌, subst}
 use mathlib.Core.Bool.{Bool, true, false, ◌&&◌, false≢true, and-eq-true_iff, and-false, or-true}
 use mathlib.Core.Logic.{◌⊎◌, inl, inr, ⊎_elim}

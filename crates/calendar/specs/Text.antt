@@ -8,7 +8,7 @@
 --     moved_date da days u     the date of the piece u, moved, or nothing: u is malformed, or its date can't be moved
 --     with_date u d            the piece u with the date d for its own; u itself where there is none
 --     shifted_piece da days u the piece u with its date moved; u itself where it has none that can be moved
---     number_in r              what each answer of `two_digits` says
+--     number_in r              what each answer of the function `two_digits` says
 use Rattle.std.specs.Prelude.{Bool, ◌&&◌, List, [], ◌∷◌, ◌++◌, ℕ, ◌+◌, ◌-◌, ◌*◌, ◌/◌, ◌%◌, eqb, leb, ℤ, length, drop, get_or}
 use Rattle.std.proofs.Math.Option.{Option, none, some}
 use Rattle.basis.specs.Choice.{pick, fork, then}

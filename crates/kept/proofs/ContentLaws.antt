@@ -1,9 +1,9 @@
 -- Laws of `specs/Content.antt`. No contract cites this file. Assumes nothing.
---     map_content-id, map_content-map, map_content-agree     a map that changes nothing; one after another; two that agree on the names
---     Agree f g us                                        f and g agree on the names us
---     uids_in-map, length-uids_in-map                     the names of a mapped content, and how many they are
+--     map_content-id, map_content-map, map_content-agree    a map that changes nothing; one after another; two that agree on the names
+--     Agree f g us                                          f and g agree on the names us
+--     uids_in-map, length-uids_in-map                   the names of a mapped content, and how many they are
 --     map_all-id, map_all-map, map_all-agree, uids_in_all-map    the same of the contents of a batch
---     uids_in_all-append                                      the names of two batches, one after the other
+--     uids_in_all-append                                         the names of two batches, one after the other
 -- Laws with Body or Walks in the place of Content say it of the other two types of the tree.
 use mathlib.Core.Path.{◌≡◌, refl, sym, ap, ap₂, ◌∙◌}
 use mathlib.Core.List.Memᴰ

@@ -1,11 +1,11 @@
 -- Laws of `specs/Counts.antt`. No contract cites this file. Assumes nothing.
---     counts_of-total            the counts sum to the number of elements met
---     counts_in c s level        the kept, replaced and renamed elements of kept content
+--     counts_of-total           the counts sum to the number of elements met
+--     counts_in c s level       the kept, replaced and renamed elements of kept content
 --     Alike a b                 the counts a and b differ in removals at most
---     counts_of-kept             kept content tells the three counts
---     counts_of-alike            so equal kept contents have them alike (K9)
+--     counts_of-kept            kept content tells the three counts
+--     counts_of-alike           so equal kept contents have them alike (K9)
 --     counts_in-map, counts_in-numbered    they hang on no name
---     counts_of-numbered         so do equal contents once names are numbers
+--     counts_of-numbered        so do equal contents once names are numbers
 use mathlib.Core.Path.{◌≡◌, refl, ap, ap₂, sym, ◌∙◌}
 use mathlib.Core.Bool.{Bool, true, false}
 use mathlib.Core.List.{List}

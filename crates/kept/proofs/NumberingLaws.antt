@@ -1,17 +1,17 @@
 -- Laws of `specs/Numbering.antt` and `specs/Renaming.antt`. No contract cites this file. Assumes nothing.
---     numbered-final, numbered_all-final        THE LAW: numbers given on the way are those of the last ledger, or of any that it begins
---     numbered-last, numbered_all-last          of the last ledger itself
---     uids-numbered, uids-numbered_all        the numbers in a numbered content are those of its names, one after the other
+--     numbered-final, numbered_all-final       THE LAW: numbers given on the way are those of the last ledger, or of any that it begins
+--     numbered-last, numbered_all-last         of the last ledger itself
+--     uids-numbered, uids-numbered_all       the numbers in a numbered content are those of its names, one after the other
 --     length-names                             as many numbers as names
---     numbered-le, numbered_all-le              each number is 1 to the count in the end
---     numbered-shape, numbered_all-shape        tags, VRs, values, nesting and order stay
---     numbered_all-rename, numbered-rename      names that are renamed one-to-one get the same numbers
+--     numbered-le, numbered_all-le             each number is 1 to the count in the end
+--     numbered-shape, numbered_all-shape       tags, VRs, values, nesting and order stay
+--     numbered_all-rename, numbered-rename     names that are renamed one-to-one get the same numbers
 --     learns-only                              what is learnt was known or met
---     NoZero us, learns-no_zero                 no name of us has a zero byte; none comes in as names are learnt
---     learns-uids_in, learns-uids_in_all           the ledger after slots is the slots of the ledger after UIDs
---     numbered-slots, numbered_all-slots        THEOREM: numbering among slots is numbering among UIDs, of names without a zero byte
+--     NoZero us, learns-no_zero                no name of us has a zero byte; none comes in as names are learnt
+--     learns-uids_in, learns-uids_in_all        the ledger after slots is the slots of the ledger after UIDs
+--     numbered-slots, numbered_all-slots       THEOREM: numbering among slots is numbering among UIDs, of names without a zero byte
 --     Renaming cs ds                           a map takes cs to ds, and another takes it back
---     numbered_all-alike                        THEOREM: two batches get the same numbers exactly where such maps are
+--     numbered_all-alike                       THEOREM: two batches get the same numbers exactly where such maps are
 --     renaming-one, one-renaming               two such maps, or one that is one-to-one on the names met
 --     numbered-one-renaming                    THEOREM: two batches get the same numbers exactly where they are one up to one renaming
 -- Laws with Body or Walks in the name say it of the other two types of the tree.

@@ -3,8 +3,8 @@
 --     Numbered c s level depth low    numbered content fits its level: each entry's body fits its fate, its values and numbers fit the VR, tags are
 --                                     allowed and rise from low on, and items nest at most depth deep
 --     numbered-lower                  what rises from a tag on rises from every lower one
---     written_of-made                  what is written of it is well-made, one deeper than it nests (a D sequence holds an empty item)
---     written_of-inj                   and decides it
+--     written_of-made                 what is written of it is well-made, one deeper than it nests (a D sequence holds an empty item)
+--     written_of-inj                  and decides it
 --     export-made, export-inj, written-inj    the same of the data set that is written, and of its bytes
 --     written-reads                   and the bytes read back as that data set
 use mathlib.Core.Path.{◌≡◌, refl, ap, ap₂, sym, ◌∙◌}

@@ -1,10 +1,10 @@
 -- Kept content: document 01, "Kept content and the four counts", 1st paragraph. X is the type of a name: a UID in kept content, its
 -- number in what is written. Length style is not part of it. Laws: `proofs/ContentLaws.antt`. Assumes nothing.
---     Content X      the elements that appear, in order: of each its tag, its VR and what is shown of it
---     Body X         a value; nothing but tag and VR; UIDs; the items of a sequence that is walked into
---     Walks X        those items, in order
+--     Content X       the elements that appear, in order: of each its tag, its VR and what is shown of it
+--     Body X          a value; nothing but tag and VR; UIDs; the items of a sequence that is walked into
+--     Walks X         those items, in order
 --     map_content f   the same content, each name changed by f
---     uids_in c      its names, in order
+--     uids_in c     its names, in order
 --     map_all, uids_in_all    the same of the contents of a batch
 use Rattle.std.specs.Prelude.{List, [], ◌∷◌, ◌++◌, map, ℕ}
 

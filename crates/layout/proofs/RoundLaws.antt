@@ -1,8 +1,8 @@
 -- The round trip: what is written reads back as what it was, whatever the depth limit that holds it, and so two well-made data sets
 -- with the same bytes are one. No contract cites this file. Assumes nothing.
 --     Back strip r b s at xs    the result r, read from `at` on, is b without its labels; what follows it in s is xs
---     read-bytes_of           THE LAW
---     bytes_of-inj            two well-made data sets with the same bytes are one
+--     read-bytes_of          THE LAW
+--     bytes_of-inj           two well-made data sets with the same bytes are one
 use mathlib.Core.Path.{◌≡◌, refl, sym, ap, ap₂, ◌∙◌}
 use mathlib.Core.Bool.{Bool, true, false}
 use mathlib.Core.List.{List, [], ◌++◌}

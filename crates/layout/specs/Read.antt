@@ -3,10 +3,10 @@
 --     Result A          what was read and the place past it, or a fault: its number and its offset
 --     with f r          r, with f of what was read
 --     after r f         f of what was read and the place past it, or r's fault
---     placed at body past    a label
+--     placed at body past      a label
 --     elements_at, items_at    the elements of a container, the items of a sequence, from a place on (m: its end mark closes it)
 --     read depth x      the tree of the data set x, where items may nest `depth` deep
---     shape_of r         the code's answer to a result: its fault, or none
+--     shape_of r        the code's answer to a result: its fault, or none
 -- The first argument of elements_at and items_at bounds how far the calls go. `read` gives one that is always enough
 -- (`read-fault` in `proofs/MadeLaws.antt` shows it). Laws: `proofs/ReadLaws.antt`. Assumes nothing.
 use Rattle.std.specs.Prelude.{Bool, false, ℕ, zero, suc, ◌+◌, ◌-◌, length}

@@ -1,12 +1,12 @@
 -- Laws of `specs/FirstMet.antt`. No contract cites this file. Assumes nothing.
 --     Begins l m                                l is the front of m
 --     begins-refl, begins-trans, begins-cons, begins-member, begins-length
---     first_at-le, first_at-yes, first_at-no       a place is at most the length; the first UID is it; it is not
---     first_at-append                            a UID that is there keeps its place as UIDs are added
---     first_at-learn                             what is learnt stands where it is found, or next
---     number_of-le, number_of-member              a number is at most one more than the length; of a UID that is there, at most the length
---     number_of-begins                           and stays as UIDs are added
---     stands_for, stands_for-number_of             what a number stands for
+--     first_at-le, first_at-yes, first_at-no    a place is at most the length; the first UID is it; it is not
+--     first_at-append                           a UID that is there keeps its place as UIDs are added
+--     first_at-learn                            what is learnt stands where it is found, or next
+--     number_of-le, number_of-member            a number is at most one more than the length; of a UID that is there, at most the length
+--     number_of-begins                          and stays as UIDs are added
+--     stands_for, stands_for-number_of          what a number stands for
 --     learn-old, learn-new                      a UID that is there changes nothing; another is added
 --     learn-begins, learn-member, learn-length
 --     learns-begins, learns-member, learns-append, learns-length

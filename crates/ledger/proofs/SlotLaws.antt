@@ -1,12 +1,12 @@
 -- Laws of `specs/Slots.antt`. No contract cites this file. Assumes nothing.
---     slots_of-fits                    the slots of a ledger lie inside it
---     slots_of-most, slots_of-full      never more than the most; the most, of a ledger that is long enough
---     length-slot_of, slot_of-laid      a slot has 64 bytes; it is a UID written over zeros
---     unslot, unslot-slot_of           the UID of a slot again
---     slot_of-inj                      two UIDs have two slots
---     length-slots_in, slots_in-from, slots_in-new     how many; from a place on; with one more
---     flat-slots_in, flat-append, flat-learn, flat-learns     the bytes of slots
---     Sized, length-flat, sized-slots_in, sized-learn, sized-learns     slots of 64 bytes each
+--     slots_of-fits                   the slots of a ledger lie inside it
+--     slots_of-most, slots_of-full    never more than the most; the most, of a ledger that is long enough
+--     length-slot_of, slot_of-laid    a slot has 64 bytes; it is a UID written over zeros
+--     unslot, unslot-slot_of          the UID of a slot again
+--     slot_of-inj                     two UIDs have two slots
+--     length-slots_in, slots_in-from, slots_in-new    how many; from a place on; with one more
+--     flat-slots_in, flat-append, flat-learn, flat-learns    the bytes of slots
+--     Sized, length-flat, sized-slots_in, sized-learn, sized-learns    slots of 64 bytes each
 --     free_all-member, slots-undone
 --     learns-slots, numbers-slots     THEOREM: numbering among slots is numbering among UIDs, of those without a zero byte
 use mathlib.Core.Path.{◌≡◌, refl, sym, ap, ap₂, ◌∙◌}

@@ -1,9 +1,9 @@
 -- Laws of `specs/Lists.antt`. No contract cites this file. Assumes nothing.
 --     then-some, pick-some                  what led to something that was found: for `then` and `pick`
---     entry_at-tagless, entry_at-short, entry_at-empty, entry_at-long, entry_at-cut, entry_at-is     one for each way of `entry_at`
---     WithinList s e, entry_at-within            an entry that was read: its tag is small enough, its value 1 to 64 bytes within the list
+--     entry_at-tagless, entry_at-short, entry_at-empty, entry_at-long, entry_at-cut, entry_at-is    one for each way of `entry_at`
+--     WithinList s e, entry_at-within           an entry that was read: its tag is small enough, its value 1 to 64 bytes within the list
 --     every-end, every-turn                 every byte of a part keeps a test: for the loop of `all_printable`
---     from-suc, is_some-then                 a number that is not 0; what goes on is read where it was read so far
+--     from-suc, is_some-then                a number that is not 0; what goes on is read where it was read so far
 --     Judging s at left low                 the entries from the place `at` on say whether the whole list keeps the rule
 --     judging-start, judging-end, judging-many, judging-broken, judging-falls, judging-odd, judging-next    one for each way of the loop of `list_ok`
 use mathlib.Core.Path.{◌≡◌, refl, sym, ap, ◌∙◌}
@@ -142,7 +142,7 @@ module _ (s : List ℕ) (at low : ℕ) where
   entries_from-more left h n x is =
       rw (from-suc left n, lt-leb (length s) at h, is, suc-sub-suc (left - 1) 0, sub-zero (left - 1)) refl
 
--- ---- list_ok, as `list_ok` finds it
+-- ---- list_ok, as the function finds it
 
 pub record Judging (s : List ℕ) (at left low : ℕ) : Type 0 where
   pub rest : list_ok s ≡ is_some (entries_from left s at low)

@@ -1,10 +1,10 @@
 -- Laws of `specs/Lookup.antt`. No contract cites this file. Assumes nothing.
 --     Seeking s t at left                what is left to search says what the whole search finds
 --     seeking-start, seeking-done, seeking-broken, seeking-below, seeking-here, seeking-past      one for each way of the loop of `entry_of`
---     entry_of-within, entry_of-tag              an entry that was found lies within the list, and has the tag
---     entry_of-entry                         of a list that keeps the rule it is the entry for that tag
---     entry_of-length, entry_of-chars          its value has 1 to 64 bytes, and only the characters that it may
---     list_ok-entries                     a list that keeps the rule was read
+--     entry_of-within, entry_of-tag            an entry that was found lies within the list, and has the tag
+--     entry_of-entry                        of a list that keeps the rule it is the entry for that tag
+--     entry_of-length, entry_of-chars        its value has 1 to 64 bytes, and only the characters that it may
+--     list_ok-entries                    a list that keeps the rule was read
 --     asked-study, asked-site, asked-neither     what is asked, by what was found in each list
 --     asked-length, asked-chars          the same of what is asked of two lists
 --     asked-none, asked-some             what bytes that were shown say of what was asked
@@ -28,7 +28,7 @@ use Rattle.lists.specs.declared.Entry.{Entry}
 use Rattle.lists.proofs.NumberLaws.{number_at-end}
 use Rattle.lists.proofs.ListsLaws.{then-some, pick-some, from-suc, entry_at-tagless, entry_at-within, WithinList}
 
--- ---- seek_from, as `entry_of` goes on
+-- ---- seek_from, as the loop of `entry_of` goes on
 
 seek_from-more : (s : List ℕ) (at t left : ℕ) → (left ≡ 0 → ⊥) → (x : Option Entry) → entry_at s at ≡ x
     → seek_from left s at t ≡ then x (λ e. fork (ltb e.tag t) (λ _. seek_from (left - 1) s e.to t) (λ _. pick (eqb e.tag t) (some e) none))

@@ -1,7 +1,7 @@
 -- Laws of `specs/Number.antt`. No contract cites this file. Assumes nothing.
---     seven_bit-end, seven_bit-last, seven_bit-more      the number at a place: past the end, a last group, a group that is not the last
+--     seven_bit-end, seven_bit-last, seven_bit-more    the number at a place: past the end, a last group, a group that is not the last
 --     number_at-end, number_at-last, number_at-small   the same of a number within limits; of one that is small enough
---     number_at-one                              a number of at most 127 is one byte
+--     number_at-one                             a number of at most 127 is one byte
 --     Going high s at sum unit i                the groups from the place `at` up to i come to sum, and one at i is worth unit: what is left says the whole
 --     going-start, going-more, going-zero, going-last, going-large, going-end, going-past      one for each way of the loop of `tag_at`
 --     worth                                     a group is worth less than 128 units

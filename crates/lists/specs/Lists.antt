@@ -1,5 +1,5 @@
 -- The rule of a replacement list: document 01, "UIDs, dates, lists", third paragraph; refusal 4; readings L1 to L5. The contract
--- of `list_ok` cites `list_ok`. Laws: `proofs/ListsLaws.antt`. Assumes nothing.
+-- of the function `list_ok` cites the definition of that name. Laws: `proofs/ListsLaws.antt`. Assumes nothing.
 --     most_tag, most_entries, most_value    the largest tag, the most entries of a list, the most bytes of a value
 --     Entry                                 an entry that was read: its tag, and the places from and to between which its value stands
 --     entry_at s at                         the entry that begins at the place `at` of s; none where a number or the value is not right or not whole

@@ -1,7 +1,7 @@
 -- The fourteen conditions of document 01, "When the station says no": the offset at which each holds, or that it does not. Of 6 to 10,
 -- and of 11 and 12, the condition is that the first fault, front to back, has this number. The order in which they are tried is the order of `conditions`. Assumes nothing.
 --     Condition I       a refusal's number and its condition on inputs of the kind I: the offset at which it holds, or that it does not
---     at_start b         the offset 0 where the test b holds
+--     at_start b        the offset 0 where the test b holds
 --     condition1 to condition5, shape_condition n (6 to 10), value_condition n (11 and 12), condition13, condition14    one for each line
 --     conditions        all of them, with their numbers, in order
 use Rattle.std.specs.Prelude.{Bool, true, false, not, ◌&&◌, List, [], ◌∷◌, ℕ, eqb, ltb, length}

@@ -1,11 +1,11 @@
 -- The outcome of a run, for all inputs, and what it leaves: document 01, "When the station says no", and "Kept content and the four
 -- counts". Laws: `proofs/OutcomeLaws.antt`. Assumes nothing.
---     Outcome             refused, with a number and an offset; or done
---     outcome_of i            the first condition that holds, tried in order; or done
---     Report              document 01's numbers: refusal, offset, length, count in use, and the four counts
---     report_of i          what is handed back
---     output_of i          every byte of the output afterwards
---     ledger_of i          every byte of the ledger afterwards
+--     Outcome         refused, with a number and an offset; or done
+--     outcome_of i    the first condition that holds, tried in order; or done
+--     Report          document 01's numbers: refusal, offset, length, count in use, and the four counts
+--     report_of i     what is handed back
+--     output_of i     every byte of the output afterwards
+--     ledger_of i     every byte of the ledger afterwards
 use Rattle.std.specs.Prelude.{List, [], ◌∷◌, ◌++◌, ℕ, ◌-◌, ◌*◌, ltb, length, take, replicate}
 use Rattle.std.proofs.Math.Option.{none, some}
 use Rattle.basis.specs.Choice.{pick}

@@ -1,3 +1,2 @@
-#![tactic(auto)]
-
 // No code: this crate defines the outcome of a run, for all inputs whatever.
+#![tactic(auto)]

@@ -3,9 +3,9 @@
 --     dataset modality name u w    a modality, which is kept; a name, which is emptied; two UIDs, which are renamed; a private element, which is removed
 --     first                        MR, Doe^Jane, 1.2.30 and 1.2.31
 --     other_kept, other_name, one_uid    CT for MR; Roe^John for Doe^Jane; 1.2.30 for 1.2.31
---     input_for d                   what a run is handed: d, no options, the root 1.9, a ledger with two slots and no entries, room for 400 bytes
---     export_of u w                 what is written of the first, with u and w for its UIDs
---     content_with modality u w     their kept contents
+--     input_for d                  what a run is handed: d, no options, the root 1.9, a ledger with two slots and no entries, room for 400 bytes
+--     export_of u w                what is written of the first, with u and w for its UIDs
+--     content_with modality u w    their kept contents
 --     bytes, said                  they are bytes; they are accepted, with these outputs, counts and contents
 use mathlib.Core.Path.{◌≡◌, refl}
 use mathlib.Core.List.{List, [], ◌∷◌, ◌++◌}

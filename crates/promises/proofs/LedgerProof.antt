@@ -2,8 +2,8 @@
 -- before needs no rule (U6). No contract cites this file. Assumes nothing.
 --     learns-takes, takes-learns         the definition's slots stand in the relation, and no others
 --     number-numbered, numbered-number     and so with the number of a slot
---     uid_in k                             what stands for every slot: its UID, or, where it holds none, itself
---     number_after i u                      the number of the UID u after the run
+--     uid_in k                            what stands for every slot: its UID, or, where it holds none, itself
+--     number_after i u                     the number of the UID u after the run
 --     numbered_is                          the export's numbers are these
 --     numbered-fits                        and kept content with them fits its level
 --     ledger-after                         the ledger

@@ -1,7 +1,7 @@
 -- What is left of a data set holds nothing that is removed on its level, and the export is that with the markers: `specs/Demand2.antt`,
 -- `specs/Markers.antt`. No contract cites this file. Assumes nothing.
 --     treated-none-removed     nothing that is removed is left, at any depth
---     with_markers-gains             the top level gains the three markers
+--     with_markers-gains            the top level gains the three markers
 use mathlib.Core.Path.{◌≡◌, refl, sym, subst}
 use mathlib.Core.Logic.{◌≢◌}
 use mathlib.Core.Bool.{true}

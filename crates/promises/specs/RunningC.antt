@@ -1,8 +1,8 @@
 -- The three demands for the C interface: the same as in `Running.antt`, stated over the contract of `corravisk_deidentify` as its source has
 -- it, in the eight numbers that a call leaves. Proofs: `proofs/RunningCProof.antt`. Assumes nothing.
 --     Calls κs x n l out m     a call that is lent what the station is, x, and the numbers n, may leave the ledger l, the output out and the numbers m
---     report_in ns            the report that eight numbers are, in the order of `include/corravisk.h`
---     outcome_in ns           the outcome that they say: done where the refusal is 0
+--     report_in ns           the report that eight numbers are, in the order of `include/corravisk.h`
+--     outcome_in ns          the outcome that they say: done where the refusal is 0
 --     CDemand1               whatever a call is lent: it leaves eight numbers and ends rightly
 --     CDemand2               where it is done, it has exported rightly
 --     CDemand2Other          where something could be exported rightly, and none of the conditions 1 to 5 holds, it is done

@@ -6,10 +6,10 @@
 --     Keeps a vr, WalkedInto a, AsD a vr, Renames a vr    the lines that hold for an element of this VR whose action is a
 --     Listed s tag vr v, Unlisted s tag vr                a list has the value v for the tag, and may serve the VR; there is no such value
 --     Evened t w                                          w is the text t, with one space where its length is odd
---     one_kept, one_replaced, one_renamed, one_removed        one element, counted
---     Becomes s number_for level tag vr f g c us    an element that is neither removed nor walked into, and held f, holds g afterwards
---     Treated s number_for level es ds c us         of the elements es of a level ds is left
---     TreatedItems s number_for level is os c us    of the items is of a sequence os is left, one by one; their elements are on this level
+--     one_kept, one_replaced, one_renamed, one_removed    one element, counted
+--     Becomes s number_for level tag vr f g c us          an element that is neither removed nor walked into, and held f, holds g afterwards
+--     Treated s number_for level es ds c us               of the elements es of a level ds is left
+--     TreatedItems s number_for level is os c us          of the items is of a sequence os is left, one by one; their elements are on this level
 -- `number_for` gives each UID its number in the ledger; c are the four counts of what was met, and us the UIDs that were renamed, in output
 -- order.
 use Rattle.std.specs.Prelude.{◌≡◌, ◌≢◌, ◌⊎◌, true, false, List, [], ◌∷◌, ◌++◌, map, ℕ, ◌%◌, length}

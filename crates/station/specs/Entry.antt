@@ -1,7 +1,7 @@
 -- What the entry's arguments and its answer are in the words of `outcome`: document 01, "What the station takes and hands back", and
 -- "When the station says no", below the table. Laws: `proofs/RunLaws.antt`. Assumes nothing.
 --     told options shift root study site    the settings that the arguments are
---     input_of ..       the input that the arguments are; the room is the output buffer's length
+--     input_of ..      the input that the arguments are; the room is the output buffer's length
 --     report used r    document 01's numbers for the answer r: refusal, offset, length written, count in use, and the four counts
 use Rattle.std.specs.Prelude.{List, ℕ, ℤ}
 use Rattle.layout.specs.Source.{Source}

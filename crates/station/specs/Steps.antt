@@ -1,7 +1,7 @@
 -- What the steps of the entry promise, one after the other. An entry for another kind of input takes the same steps; the entry's own
 -- contract cites `Entry.antt` and `outcome` alone. Assumes nothing.
 --     early n s ledger used  the number of the first of the conditions 1 to 5 that holds, of an input of n bytes under the settings s; 0 where none does
---     judged_as w r           the first fault of what was read, of its shape or else among its values; or none
+--     judged_as w r          the first fault of what was read, of its shape or else among its values; or none
 --     Judged n x r           the answer r is that of the data set x, for all settings with the numbers n
 --     zeroed out, left l used  what a refusal leaves of the output and of the ledger l
 --     Counted l walk         the walk's count in use is at most the slots

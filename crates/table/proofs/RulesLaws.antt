@@ -2,7 +2,7 @@
 --     reserved-last                          past three of the reserved tags, a tag is one of them exactly where it is the fourth
 --     ruled-curve, ruled-private, ruled-overlay, ruled-zeroth, ruled-reserved     what each rule speaks of is ruled
 --     ruled-level                            where the first four do not speak, the level decides
---     row_of-unruled                          A1: no rule speaks of a tag that has a row, so the rules' place before the rows decides nothing
+--     row_of-unruled                         A1: no rule speaks of a tag that has a row, so the rules' place before the rows decides nothing
 --     reserved-free                          A4: inside an item no rule speaks of the reserved tags, and they have no row
 use mathlib.Core.Path.{◌≡◌, sym}
 use mathlib.Core.Bool.{Bool, true, false, not, ◌&&◌, or-false}

@@ -1,6 +1,6 @@
 -- Laws of `specs/Fates.antt`. No contract cites this file. Assumes nothing.
 --     Suits φ vr        what the fate φ says of the VR
---     fate_of-suits      so it is with every element, under every option number
+--     fate_of-suits     so it is with every element, under every option number
 --     fate-suits        the same under settings
 --     fate-walked, fate-renamed, fate-shifted, fate-kept, fate-dummied, fate-wrong    the same, one fate each
 --     Sequential φ      a sequence can have the fate φ: removed, walked into, emptied or dummied

@@ -1,13 +1,13 @@
 -- Laws of `specs/NewUid.antt`. No contract cites this file. Assumes nothing.
---     decimal-small, decimal-more       a number below ten is one digit; another is its tenth's digits and one more
---     decimal-inj                       two numbers are written alike only where they are one
+--     decimal-small, decimal-more        a number below ten is one digit; another is its tenth's digits and one more
+--     decimal-inj                        two numbers are written alike only where they are one
 --     length-decimal-small, length-decimal-more, decimal-short     a number below a power of ten has no more digits than that
---     decimal-component                 a number in decimal is a component of a UID
+--     decimal-component                  a number in decimal is a component of a UID
 --     length-new_uid, new_uid-inj, new_uid-free
---     digits_left, new_uid-is_uid          a root with a number of the digits that it leaves room for is a UID
+--     digits_left, new_uid-is_uid        a root with a number of the digits that it leaves room for is a UID
 --     uids_text-inj                      two values of new UIDs are alike only where their numbers are
---     new_uid-short, uids_text-length     a value of new UIDs fits a length of two bytes (W18)
---     uids_of-uids_text                   new UIDs that were written are read back
+--     new_uid-short, uids_text-length    a value of new UIDs fits a length of two bytes (W18)
+--     uids_of-uids_text                  new UIDs that were written are read back
 use mathlib.Core.Path.{◌≡◌, refl, sym, ap, ap₂, ◌∙◌}
 use mathlib.Core.Bool.{Bool, true, false, and-eq-true_iff}
 use mathlib.Core.Logic.{◌≢◌}

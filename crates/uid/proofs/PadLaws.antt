@@ -2,8 +2,8 @@
 --     trimmed-snoc, trimmed-free                  the last byte decides; no zero byte, nothing is taken off
 --     trimmed-part                                what the place shows that `trimmed_end` hands back
 --     trimmed-none, trimmed-zero, trimmed-same    the ways out of `trimmed_end`
---     zero_pad-even, zero_pad-odd, length-padded        a padded text is even
---     trimmed-zero_pad, zero_pad-trimmed                the zero byte of an even value is the one that the rule asks for
+--     zero_pad-even, zero_pad-odd, length-padded      a padded text is even
+--     trimmed-zero_pad, zero_pad-trimmed              the zero byte of an even value is the one that the rule asks for
 use mathlib.Core.Path.{◌≡◌, refl, sym, ap, ◌∙◌}
 use mathlib.Core.Bool.{Bool, true, false}
 use mathlib.Core.Logic.{◌⊎◌, inl, inr}

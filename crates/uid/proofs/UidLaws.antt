@@ -6,9 +6,9 @@
 --     components-one, components-dot      what has no dot is one component; and so is what stands before the first dot
 --     formed-one, formed-dot, formed-append     a component; one, a dot and more; two such texts with a dot between them
 --     formed-free                         what is neither a digit nor a dot does not stand in such a text
---     UidIs, uid_upto-is                   a UID has 1 character or more, no zero byte and no backslash
---     uid_upto-formed, uid_upto-from        and is such a text, of at most n characters
---     is_root-is_uid                        a root is a UID
+--     UidIs, uid_upto-is                  a UID has 1 character or more, no zero byte and no backslash
+--     uid_upto-formed, uid_upto-from      and is such a text, of at most n characters
+--     is_root-is_uid                      a root is a UID
 use mathlib.Core.Path.{◌≡◌, refl, sym, ap, ◌∙◌}
 use mathlib.Core.Bool.{Bool, true, false, ◌&&◌, false≢true, true≢false, and-eq-true_iff}
 use mathlib.Core.Logic.{◌≢◌}

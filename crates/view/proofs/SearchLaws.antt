@@ -1,7 +1,7 @@
 -- What the search's answers are, what its loop keeps, and how a turn of it goes. No contract cites this file. Assumes nothing.
 --     search_of-refused    a refusal of the search is one of 5 to 10, with an offset within the data set
---     ahead got w r       the answer where `got` is known so far and r is what the rest of the level is
---     Seeking             the loop's invariant: the answer at the start is the answer from here, and what is known lies within the data set
+--     ahead got w r        the answer where `got` is known so far and r is what the rest of the level is
+--     Seeking              the loop's invariant: the answer at the start is the answer from here, and what is known lies within the data set
 --     plain-lies, sequence-lies, items-end    the bounds of a plain head, of a sequence's head, and of the place where its items end
 use mathlib.Core.Path.{◌≡◌, refl, sym, ap, ◌∙◌}
 use mathlib.Core.Bool.{Bool, true, false}

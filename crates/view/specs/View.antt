@@ -1,6 +1,6 @@
 -- The second entry, which shows one attribute: document 01, the last paragraph of "When the station says no"; readings V1 to V5.
 --     shown a                     the view of what a search found
---     view_of x tag                the answer for the data set x
+--     view_of x tag               the answer for the data set x
 --     refusal_of, offset_of, found_of, start_of, length_of    the numbers that are handed back for each case of the answer
 --                                 (a refusal's number and offset are document 01's; 0 where there is none, and the rest, are ours: R9)
 --     Shows a r lent              the slice r is the very part of `lent` that the answer a speaks of, else an empty part of it

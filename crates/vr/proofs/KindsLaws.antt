@@ -2,7 +2,7 @@
 --     tried first r n              a test: r has the right two bits for each of the first n second letters
 --     tried-kinds, kinds-none      r holds the kinds where it passes for all 32; 0 does where no VR has the first letter
 --     kinds-at                     the two bits of a VR
---     kind_of-letters               what has no second letter from 64 to 95 is Unknown
+--     kind_of-letters              what has no second letter from 64 to 95 is Unknown
 --     number-short, number-long, number-sequence, number-unknown    the kind that a number stands for
 use mathlib.Core.Path.{◌≡◌, refl, sym, ◌∙◌}
 use mathlib.Core.Logic.{⊎_elim}

@@ -1,11 +1,11 @@
 -- Laws of `specs/Vr.antt`. What holds of the VRs is proved once over the VR, by one computed test over the 34.
 -- No contract cites this file. Assumes nothing.
---     all_vrs-spelt       each name is the number that its own letters spell
+--     all_vrs-spelt      each name is the number that its own letters spell
 --     all_vrs-each       what f is at each of the 34, it is at every one of them
 --     kind_of-unknown    what is not among the 34 is Unknown
---     kind_of-all_vrs      what is not Unknown is among them
+--     kind_of-all_vrs    what is not Unknown is among them
 --     kind_of-sequence   SQ alone is Sequence
---     all_vrs-two         the letters of a VR are two bytes
+--     all_vrs-two        the letters of a VR are two bytes
 --     dummy_of-short     a dummy has at most 14 bytes
 use mathlib.Core.Path.{◌≡◌, refl}
 use mathlib.Core.Bool.{Bool, true, false}

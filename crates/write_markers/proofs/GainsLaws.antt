@@ -1,10 +1,10 @@
 -- Laws of `specs/Gains.antt`: a walk over a level, which writes what is due before each element, writes the level with the three elements
 -- that it gains. No contract cites this file. Assumes nothing.
---     gain_tags, Other tag         the three tags; the tag is none of them
+--     gain_tags, Other tag        the three tags; the tag is none of them
 --     gain-in, gain-below, gain-above     one of the three that is due; that is not
---     with_markers-start                     all three are those from 0 on
+--     with_markers-start                      all three are those from 0 on
 --     with_markers-kept, with_markers-gone    one step of the walk: before an element that is written; past one that is left out
---     with_markers-end                       after the last element
+--     with_markers-end                        after the last element
 --     from-lower                  what is from a tag on is from every lower one
 --     Rises low es                the tags of a level rise, from low on
 --     written-from                what is written of such elements begins no lower than they do

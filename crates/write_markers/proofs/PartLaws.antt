@@ -3,10 +3,10 @@
 --     spaced-pad                       a spaced text is the text and its pad
 --     cs-short, sh-short, lo-short     the VRs of the texts have headers of eight bytes
 --     short-length, sequence-length, mark-length, text-length    how long a header, a mark, an element with a text is
---     head_of-parts, item-parts         an item's pieces
+--     head_of-parts, item-parts        an item's pieces
 --     codes-parts                      those of (0012,0064)
 --     head_of-length, head-place, item-length, option-length, basic-length, options-length    how long the items are at most
---     codes-length, word-length, yes-due-length, codes-due-length, dates-due-length          likewise the elements
+--     codes-length, word-length, yes-due-length, codes-due-length, dates-due-length           likewise the elements
 --     gained-length                    and all that is gained_if
 use mathlib.Core.Path.{◌≡◌, refl, sym, ap, ap₂, ◌∙◌}
 use mathlib.Core.Bool.{Bool, true, false}

@@ -1,15 +1,15 @@
 -- What the top level gains, piece by piece: document 01, "What each action writes", last paragraph; readings W13, W15 to W17. `Markers` of the
 -- crate `kept` says which three elements these are. Here they are cut at tags, since a walk over the level writes each when it comes past
 -- its tag. Laws: `proofs/GainsLaws.antt`, `proofs/StepLaws.antt`. Assumes nothing.
---     all_markers                        the most bytes that the top level gains, and some to spare
---     due low high tag                  a test: the tag lies from low up to high, high not included
---     gain low high tag vr f d          d with the element in front, where its tag is due
---     gaining options low high d         d with those of the three in front that are due
---     gained_if top options low high        their bytes; none where it is not the top level
---     insert_from low tag vr f d         d with the element where its tag belongs, if its tag is at least low
---     with_markers_from options low d           d with those of the three whose tags are at least low
---     with_markers_if top options low d         the same on the top level; else d as it is
---     From low d                        every tag of the level d is at least low
+--     all_markers                          the most bytes that the top level gains, and some to spare
+--     due low high tag                     a test: the tag lies from low up to high, high not included
+--     gain low high tag vr f d             d with the element in front, where its tag is due
+--     gaining options low high d           d with those of the three in front that are due
+--     gained_if top options low high       their bytes; none where it is not the top level
+--     insert_from low tag vr f d           d with the element where its tag belongs, if its tag is at least low
+--     with_markers_from options low d      d with those of the three whose tags are at least low
+--     with_markers_if top options low d    the same on the top level; else d as it is
+--     From low d                           every tag of the level d is at least low
 use Rattle.std.specs.Prelude.{Bool, true, false, ◌&&◌, List, [], ℕ, ◌≤◌, leb, ltb}
 use Rattle.basis.specs.Choice.{pick}
 use Rattle.basis.specs.Text.{ascii}

@@ -1,9 +1,9 @@
 -- The pieces in which the code writes the three elements; no promise speaks of them. Laws: `proofs/PartLaws.antt`. Assumes nothing.
---     space_pad n                     the space behind a text of n bytes, where n is odd
---     item_bytes d                 an item with its end mark
---     items_bytes is               the items of a sequence, without the sequence's own end mark
---     option_bytes o               the item of an option, where there is one
---     head_of code                 an item up to its meaning: its tag, the code value and the scheme
+--     space_pad n       the space behind a text of n bytes, where n is odd
+--     item_bytes d      an item with its end mark
+--     items_bytes is    the items of a sequence, without the sequence's own end mark
+--     option_bytes o    the item of an option, where there is one
+--     head_of code      an item up to its meaning: its tag, the code value and the scheme
 use Rattle.std.specs.Prelude.{List, [], ◌∷◌, ◌++◌, ℕ, ◌%◌, eqb}
 use Rattle.std.proofs.Math.Option.{Option, none, some}
 use Rattle.basis.specs.Choice.{pick}

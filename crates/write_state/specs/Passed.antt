@@ -1,12 +1,12 @@
 -- The writing walk as a state that goes over the tree from front to back: what is written so far, the ledger's slots and the four counts.
 -- Each part is `kept`'s own definition, started from the state; nothing new is said about what is written. Assumes nothing.
---     State                    the bytes that are written, the slots in use, and the counts
---     say st xs                st, with the bytes xs behind its own
---     count st c               st, with the counts c more
---     slotted es s level       the kept content of the elements es of a level, each UID as its slot
---     slotted_items is s level  the same of the items of a sequence, whose elements are on this level
---     tree_for s level ks es    the elements that are written of es, where ks are the slots in use
---     passed s level low es st     st after the elements es of a level, whose tags are at least low: on the top level with what it gains from low on
+--     State                         the bytes that are written, the slots in use, and the counts
+--     say st xs                     st, with the bytes xs behind its own
+--     count st c                    st, with the counts c more
+--     slotted es s level            the kept content of the elements es of a level, each UID as its slot
+--     slotted_items is s level      the same of the items of a sequence, whose elements are on this level
+--     tree_for s level ks es        the elements that are written of es, where ks are the slots in use
+--     passed s level low es st      st after the elements es of a level, whose tags are at least low: on the top level with what it gains from low on
 --     passed_one s level es st      the same without what the top level gains; for one element
 --     passed_items s level is st    st after the items is of a sequence that is walked into, and the mark that ends it
 use Rattle.std.specs.Prelude.{List, [], ◌++◌, ℕ}

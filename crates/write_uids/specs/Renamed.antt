@@ -1,7 +1,7 @@
 -- What the renaming of a UI element hands over: document 01, "UIDs, dates, lists", first paragraph, and refusal 13; readings U6 to
 -- U10 and W19. The contract of `put_renamed` cites `RenamedValue`. Laws: `proofs/Whole.antt`. Assumes nothing.
---     slots_once_met l used us              the slots in use once the UIDs us were met, of a ledger l with `used` slots in use
---     renamed_text root l used us        the value that holds the new UIDs of us
+--     slots_once_met l used us            the slots in use once the UIDs us were met, of a ledger l with `used` slots in use
+--     renamed_text root l used us       the value that holds the new UIDs of us
 --     renamed_element tag root l used us the bytes of the whole element
 --     RenamedRightly out out' pos xs l l' ks r     r is the right answer where the output out is to gain the bytes xs at pos and the ledger l the
 --                                       slots ks: out' and l' are what they are left as. `Full` is right only where ks are too many

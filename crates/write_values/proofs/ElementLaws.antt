@@ -1,4 +1,4 @@
--- Laws of `specs/Element.antt`, on elements with a value: how long one is, and the ways out of `put-same`, `put_dates` and `put_text`.
+-- Laws of `specs/Element.antt`, on elements with a value: how long one is, and the ways out of `put_same`, `put_dates` and `put_text`.
 -- No contract cites this file. Assumes nothing.
 --     length-header                     a header has at most 12 bytes
 --     value-bytes, length-value         an element with a value is its header and the value

@@ -1,4 +1,4 @@
--- `piece_end` meets its contract. The loop's invariant: the piece from e on ends where that from a on does. Assumes nothing.
+-- `piece_end` meets its contract. Assumes nothing.
 use mathlib.Core.Path.{refl, sym, ◌∙◌}
 use Rattle.basis.proofs.PieceEndLaws.{piece-more, piece-found, piece-last}
 use native.Mathlib.Omega.{arith}

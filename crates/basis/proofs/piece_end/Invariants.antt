@@ -1,4 +1,4 @@
--- `piece_end` meets its contract. The loop's invariant: the piece from e on ends where that from a on does. Assumes nothing.
+-- The loop of `piece_end`. The invariant: the piece from e on ends where that from a on does.
 use mathlib.Core.Path.{◌≡◌}
 use Prim.Native.Nat.{◌-◌, ◌≤◌}
 use Rattle.basis.specs.Pieces.{piece_end}

@@ -1,4 +1,4 @@
--- `buffer::copy` meets its contract. Assumes nothing.
+-- What the loop of `buffer::copy` keeps, and what falls at each turn.
 use lib.ListN.{take, drop}
 use Prim.Native.Nat.{◌≤◌, ◌-◌}
 use mathlib.Core.Path.{◌≡◌}

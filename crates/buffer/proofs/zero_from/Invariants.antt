@@ -1,4 +1,4 @@
--- `buffer::zero_from` meets its contract. Assumes nothing.
+-- What the loop of `buffer::zero_from` keeps, and what falls at each turn.
 use lib.ListN.{length, replicate}
 use Prim.Native.Nat.{◌≤◌, ◌-◌}
 use mathlib.Core.Path.{◌≡◌}

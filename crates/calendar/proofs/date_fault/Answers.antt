@@ -1,5 +1,4 @@
--- `calendar::date_fault` meets its contract. The loop's invariant is `Judging`: the value is refused exactly where one of the
--- pieces left is. The measure: what is left of the value. Assumes nothing.
+-- `calendar::date_fault` meets its contract. Assumes nothing.
 use mathlib.Core.Path.{ap}
 use mir.Facts.{to_z-of_z}
 use Rattle.calendar.specs.Dates.{date_in}

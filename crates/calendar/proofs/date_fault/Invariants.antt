@@ -1,4 +1,5 @@
--- `calendar::date_fault` meets its contract. The loop's invariant is `Judging`: the value is refused exactly where one of the
+-- The loop of `calendar::date_fault`. The invariant is `Judging`: the value is refused exactly where one of the pieces left is. The measure: what is left
+-- of the value.
 use Prim.Native.Nat.{◌-◌}
 use Rattle.calendar.proofs.Judging.{Judging}
 use Rattle.calendar.proofs.date_fault.Given as goal

@@ -1,4 +1,4 @@
--- `calendar::is-real` meets its contract: the tests of `real`, in its order. Assumes nothing.
+-- `calendar::is_real` meets its contract: the tests of `real`, in its order. Assumes nothing.
 use mathlib.Core.Path.{refl}
 use borrow.Author.Tests.{le-leb, lt-leb}
 use Rattle.calendar.specs.Dates.{real}

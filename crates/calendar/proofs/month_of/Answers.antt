@@ -1,5 +1,4 @@
--- `calendar::month_of` meets its contract. The loop's invariant: the month begins before the day. The measure: the months left.
--- Assumes nothing.
+-- `calendar::month_of` meets its contract. Assumes nothing.
 use Prim.Native.Nat.{◌+◌, ◌-◌, ◌/◌}
 use Rattle.calendar.proofs.Closed.{month-high, month-below, year-long}
 use native.Mathlib.Omega.{arith}

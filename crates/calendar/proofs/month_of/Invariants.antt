@@ -1,4 +1,4 @@
--- `calendar::month_of` meets its contract. The loop's invariant: the month begins before the day. The measure: the months left.
+-- The loop of `calendar::month_of`. The invariant: the month begins before the day. The measure: the months left.
 use Prim.Native.Nat.{◌<◌, ◌-◌, ◌≤◌}
 use Rattle.calendar.specs.Spans.{before}
 use Rattle.calendar.specs.Dates.{month_len}

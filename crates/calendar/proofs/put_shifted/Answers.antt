@@ -1,5 +1,4 @@
--- `calendar::put_shifted` meets its contract. The loop's invariant is `Writing`: what is written and the pieces left make the
--- text. The measure: what is left of the value. Assumes nothing.
+-- `calendar::put_shifted` meets its contract. Assumes nothing.
 use Prim.Native.Nat.{◌^◌}
 use mir.Facts.{to_z-of_z}
 use Rattle.calendar.proofs.Writing.{write-start, write-cut, write-end, write-next, write-last, write-on}

@@ -1,4 +1,5 @@
--- `calendar::put_shifted` meets its contract. The loop's invariant is `Writing`: what is written and the pieces left make the
+-- The loop of `calendar::put_shifted`. The invariant is `Writing`: what is written and the pieces left make the text. The measure: what is left of the
+-- value.
 use Prim.Native.Nat.{◌-◌}
 use Rattle.calendar.proofs.Writing.{Writing}
 use Rattle.calendar.proofs.put_shifted.Given as goal

@@ -1,4 +1,4 @@
--- `calendar::two_digits` meets its contract: the tests of `two_digits`, in its order. Assumes nothing.
+-- `calendar::two_digits` meets its contract: the tests of the definition, in its order. Assumes nothing.
 use borrow.Author.Tests.{le-leb, lt-leb}
 use Rattle.calendar.specs.Text.{two_digits}
 use Rattle.calendar.proofs.two_digits.Goals as goal

@@ -1,5 +1,4 @@
--- `calendar::year_of` meets its contract. The loop's invariant: the year begins before the day. The measure: the years left.
--- Assumes nothing.
+-- `calendar::year_of` meets its contract. Assumes nothing.
 use Prim.Native.Nat.{◌+◌, ◌-◌, ◌*◌, ◌/◌}
 use Rattle.calendar.specs.Dates.{last_year, year_len}
 use Rattle.calendar.proofs.SpansLaws.{in_span-below}

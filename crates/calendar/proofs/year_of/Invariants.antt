@@ -1,4 +1,4 @@
--- `calendar::year_of` meets its contract. The loop's invariant: the year begins before the day. The measure: the years left.
+-- The loop of `calendar::year_of`. The invariant: the year begins before the day. The measure: the years left.
 use Prim.Native.Nat.{◌<◌, ◌+◌, ◌-◌}
 use Rattle.calendar.specs.Spans.{before}
 use Rattle.calendar.specs.Dates.{last_year, year_len}

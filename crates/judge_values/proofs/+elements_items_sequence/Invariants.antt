@@ -1,4 +1,4 @@
--- The cycle of `judge_values::elements`, `judge_values::items`, `judge_values::sequence` meets its contracts. Assumes nothing.
+-- What the loops of the cycle keep, and what falls at each turn and with each call.
 use Rattle.layout.specs.Source.{explicitly}
 use Rattle.judge_values.proofs.JudgeLaws.{Going, GoingItems}
 use Prim.Native.Nat.{◌+◌, ◌-◌, ◌*◌}

@@ -1,4 +1,4 @@
--- The cycle of `layout::elements`, `layout::item`, `layout::sequence` meets its contracts. Assumes nothing.
+-- What the loops of the cycle keep, and what falls at each turn and with each call.
 use Rattle.layout.specs.Source.{explicitly}
 use Rattle.layout.proofs.WalkLaws.{Going, GoingItems}
 use Prim.Native.Nat.{◌+◌, ◌-◌, ◌*◌}

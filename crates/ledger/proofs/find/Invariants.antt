@@ -1,4 +1,4 @@
--- `find` meets its contract: one law for each way on in its loop or out of it. Assumes nothing.
+-- What the loop of `find` keeps, and what falls at each turn.
 use Prim.Native.Nat.{◌-◌}
 use Rattle.ledger.proofs.SearchTurns.{Searched}
 use Rattle.ledger.proofs.find.Given as goal

@@ -1,4 +1,4 @@
--- `same_slot` meets its contract: one law for each way on in its loop or out of it. Assumes nothing.
+-- What the loop of `same_slot` keeps, and what falls at each turn.
 use Prim.Native.Nat.{◌-◌}
 use Rattle.ledger.specs.Slots.{slot_size}
 use Rattle.ledger.proofs.SearchTurns.{Compared}

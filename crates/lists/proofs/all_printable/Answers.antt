@@ -1,4 +1,4 @@
--- `lists::all_printable` meets its contract. The loop's invariant: what was found so far and what is left say the whole. Assumes nothing.
+-- `lists::all_printable` meets its contract. Assumes nothing.
 use mathlib.Core.Path.{sym, ◌∙◌}
 use Rattle.lists.specs.Lists.{printable}
 use Rattle.lists.proofs.ListsLaws.{every-end, every-turn}

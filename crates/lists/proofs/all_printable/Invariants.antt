@@ -1,4 +1,4 @@
--- `lists::all_printable` meets its contract. The loop's invariant: what was found so far and what is left say the whole. Assumes nothing.
+-- The loop of `lists::all_printable`. The invariant: what was found so far and what is left say the whole.
 use Prim.Native.Nat.{◌-◌}
 use mathlib.Core.Path.{◌≡◌}
 use mathlib.Core.Bool.{◌&&◌}

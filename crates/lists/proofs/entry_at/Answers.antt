@@ -1,4 +1,4 @@
--- `lists::entry_at` meets its contract: a law of `entry_at` for each way out. Assumes nothing.
+-- `lists::entry_at` meets its contract: a law of the definition for each way out. Assumes nothing.
 use mathlib.Core.Path.{sym, ap}
 use Rattle.lists.specs.Handed.{found_of}
 use Rattle.lists.proofs.HandedLaws.{num_of-got, num_of-bad}

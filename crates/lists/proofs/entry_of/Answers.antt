@@ -1,5 +1,4 @@
--- `lists::entry_of` meets its contract. The loop's invariant is `Seeking`: the entries that are left say what is found. The measure is how many
--- entries are still read. Assumes nothing.
+-- `lists::entry_of` meets its contract. Assumes nothing.
 use mathlib.Core.Path.{sym, ap}
 use Rattle.lists.specs.Handed.{found_of}
 use Rattle.lists.proofs.HandedLaws.{found_of-at, found_of-nothing}

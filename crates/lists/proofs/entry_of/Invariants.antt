@@ -1,4 +1,4 @@
--- `lists::entry_of` meets its contract. The loop's invariant is `Seeking`: the entries that are left say what is found. The measure is how many
+-- The loop of `lists::entry_of`. The invariant is `Seeking`: the entries that are left say what is found. The measure is how many entries are still read.
 use Rattle.lists.proofs.LookupLaws.{Seeking}
 use Rattle.lists.proofs.entry_of.Given as goal
 

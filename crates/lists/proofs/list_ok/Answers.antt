@@ -1,5 +1,4 @@
--- `lists::list_ok` meets its contract. The loop's invariant is `Judging`: the entries that are left say the whole. The measure is how many
--- entries there may still be. Assumes nothing.
+-- `lists::list_ok` meets its contract. Assumes nothing.
 use borrow.Author.Tests.{not-true, not-false}
 use mathlib.Core.Path.{sym, ◌∙◌}
 use Rattle.lists.proofs.HandedLaws.{found_of-at, found_of-nothing}

@@ -1,4 +1,4 @@
--- `lists::list_ok` meets its contract. The loop's invariant is `Judging`: the entries that are left say the whole. The measure is how many
+-- The loop of `lists::list_ok`. The invariant is `Judging`: the entries that are left say the whole. The measure is how many entries there may still be.
 use Rattle.lists.proofs.ListsLaws.{Judging}
 use Rattle.lists.proofs.list_ok.Given as goal
 

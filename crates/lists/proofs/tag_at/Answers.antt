@@ -1,5 +1,4 @@
--- `lists::tag_at` meets its contract. The loop's invariant is `Going`: the groups that were read and what is left say the whole number.
--- The measure is what is left of the list. Assumes nothing.
+-- `lists::tag_at` meets its contract. Assumes nothing.
 use Prim.Native.Nat.{◌%◌}
 use mathlib.Core.Path.{sym, ap}
 use lib.ListN.{get_or}

@@ -1,4 +1,5 @@
--- `lists::tag_at` meets its contract. The loop's invariant is `Going`: the groups that were read and what is left say the whole number.
+-- The loop of `lists::tag_at`. The invariant is `Going`: the groups that were read and what is left say the whole number. The measure is what is left of
+-- the list.
 use Prim.Native.Nat.{◌≤◌, ◌<◌, ◌-◌}
 use lib.ListN.{length}
 use Rattle.lists.specs.Lists.{most_tag}

@@ -1,4 +1,4 @@
--- `table::on_row` meets its contract: one law for each branch of `on_row`. Assumes nothing.
+-- `table::on_row` meets its contract: one law for each branch of the definition. Assumes nothing.
 use mathlib.Core.Path.{sym, ◌∙◌, ap}
 use borrow.Author.Tests.{eqb-true}
 use Rattle.table.specs.Action.{action_for, on_row}

@@ -1,5 +1,4 @@
--- `table::overriding_letter` meets its contract. The invariant: the letter is what the options passed give together, and what is left of
--- the option number and of the row begins with the next option. The measure is how many options are left. Assumes nothing.
+-- `table::overriding_letter` meets its contract. Assumes nothing.
 use mathlib.Core.Path.{refl, sym, ◌∙◌, ap}
 use Prim.Native.Nat.{◌/◌}
 use native.Mathlib.Nat.{div-one, le_antisymm}

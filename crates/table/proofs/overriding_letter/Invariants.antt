@@ -1,4 +1,5 @@
--- `table::overriding_letter` meets its contract. The invariant: the letter is what the options passed give together, and what is left of
+-- The loop of `table::overriding_letter`. The invariant: the letter is what the options passed give together, and what is left of the option number and of the
+-- row begins with the next option. The measure is how many options are left.
 use mathlib.Core.Path.{◌≡◌}
 use Prim.Native.Nat.{◌≤◌, ◌-◌, ◌/◌, ◌^◌}
 use Rattle.table.specs.Override.{option_count, overriding}

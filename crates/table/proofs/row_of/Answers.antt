@@ -1,5 +1,4 @@
--- `table::row_of` meets its contract. The invariant: if a row has the tag, it is among those that are left. The measure is how many they
--- are. Assumes nothing.
+-- `table::row_of` meets its contract. Assumes nothing.
 use mathlib.Core.Path.{sym, ◌∙◌, ap}
 use mathlib.Core.List.{List}
 use Prim.Native.Nat.{ℕ, ◌+◌, ◌/◌}

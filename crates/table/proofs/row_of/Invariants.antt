@@ -1,4 +1,4 @@
--- `table::row_of` meets its contract. The invariant: if a row has the tag, it is among those that are left. The measure is how many they
+-- The loop of `table::row_of`. The invariant: if a row has the tag, it is among those that are left. The measure is how many they are.
 use Prim.Native.Nat.{◌-◌}
 use Rattle.table.proofs.SearchLaws.{Left}
 use Rattle.table.proofs.row_of.Given as goal

@@ -1,4 +1,4 @@
--- `put_decimal` meets its contract. It calls itself with a tenth of the number, which is the measure. Assumes nothing.
+-- `put_decimal` meets its contract. Assumes nothing.
 use Rattle.uid.proofs.NewUidLaws.{length-decimal-small, length-decimal-more}
 use Rattle.uid.proofs.PutLaws.{put-small, put-more}
 use native.Mathlib.Omega.{arith}

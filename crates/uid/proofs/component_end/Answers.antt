@@ -1,4 +1,4 @@
--- `component_end` meets its contract. The loop's invariant: the digits from e on end where those from a on do. Assumes nothing.
+-- `component_end` meets its contract. Assumes nothing.
 use mathlib.Core.Path.{sym, ap, ◌∙◌}
 use Prim.Native.Nat.{◌+◌}
 use Rattle.basis.proofs.TextLaws.{is_digit-yes, is_digit-low, is_digit-high}

@@ -1,4 +1,4 @@
--- `component_end` meets its contract. The loop's invariant: the digits from e on end where those from a on do. Assumes nothing.
+-- The loop of `component_end`. The invariant: the digits from e on end where those from a on do.
 use mathlib.Core.Path.{◌≡◌}
 use Prim.Native.Nat.{◌+◌, ◌-◌, ◌≤◌}
 use Rattle.basis.specs.Bytes.{part}

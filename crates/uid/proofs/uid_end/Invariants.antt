@@ -1,4 +1,4 @@
--- `uid_end` meets its contract: one law for each way on or out of its loop. Assumes nothing.
+-- What the loop of `uid_end` keeps, and what falls at each turn.
 use Prim.Native.Nat.{◌-◌}
 use Rattle.uid.proofs.UidTurns.{Onward}
 use Rattle.uid.proofs.uid_end.Given as goal

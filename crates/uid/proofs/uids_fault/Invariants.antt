@@ -1,4 +1,4 @@
--- `uids_fault` meets its contract: one law for each way before its loop, on in it or out of it. Assumes nothing.
+-- What the loop of `uids_fault` keeps, and what falls at each turn.
 use Rattle.uid.proofs.FaultTurns.{Judging}
 use Rattle.uid.proofs.uids_fault.Given as goal
 

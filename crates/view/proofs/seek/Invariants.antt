@@ -1,4 +1,4 @@
--- `view::seek` meets its contract: each way through the loop is a law of `proofs/SearchLaws.antt`. Assumes nothing.
+-- What the loop of `view::seek` keeps, and what falls at each turn.
 use Prim.Native.Nat.{◌-◌}
 use lib.ListN.{length}
 use Rattle.view.proofs.SearchLaws.{Seeking}

@@ -1,4 +1,4 @@
--- `write_markers::put_options` meets its contract: the invariant says what is written of the items, and what is left of them. Assumes nothing.
+-- `write_markers::put_options` meets its contract. Assumes nothing.
 use Rattle.write_markers.proofs.PutLaws.{going-start, going-on, going-room, going-end}
 use native.Mathlib.Omega.{arith}
 use Rattle.write_markers.proofs.put_options.Goals as goal

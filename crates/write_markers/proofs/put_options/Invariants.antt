@@ -1,4 +1,4 @@
--- `write_markers::put_options` meets its contract: the invariant says what is written of the items, and what is left of them. Assumes nothing.
+-- The loop of `write_markers::put_options`. The invariant says what is written of the items, and what is left of them.
 use Prim.Native.Nat.{◌-◌}
 use Rattle.write_markers.proofs.PutLaws.{Going}
 use Rattle.write_markers.proofs.put_options.Given as goal

@@ -1,4 +1,4 @@
--- `write_uids::put_uids` meets its contract. Each way of the loop is a law of `proofs/Turns.antt`. Assumes nothing.
+-- What the loop of `write_uids::put_uids` keeps, and what falls at each turn.
 use Prim.Native.Nat.{◌-◌}
 use Rattle.write_uids.proofs.Turns.{Going}
 use Rattle.write_uids.proofs.put_uids.Given as goal

@@ -1,4 +1,4 @@
--- `write_values::put-same` meets its contract. Assumes nothing.
+-- `write_values::put_same` meets its contract. Assumes nothing.
 use mathlib.Core.Path.{sym}
 use Prim.Native.Nat.{◌-◌}
 use Rattle.basis.proofs.BytesLaws.{length-part}

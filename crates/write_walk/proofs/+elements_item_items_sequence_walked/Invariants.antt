@@ -1,4 +1,4 @@
--- The cycle of the writing walk: the elements of a container, a sequence, one that is walked into, its items, an item. Each answer is a law of
+-- What the loops of the cycle keep, and what falls at each turn and with each call.
 use Rattle.layout.specs.Source.{explicitly}
 use Rattle.treatment.specs.Settings.{settings_of}
 use Rattle.write_state.specs.Wrote.{ElementsPass, ItemsPass}
