@@ -9,17 +9,20 @@ ghost use Rattle.outcome.specs.Outcome.{report_of, output_of, ledger_of};
 ghost use Rattle.station.specs.Entry.{told, input_of, report as report_for};
 ghost use Rattle.abi.specs.Numbers.{view_numbers, report_numbers, fate_number, level_meant, action_numbers};
 
-use station::HandedBack;
+use refusals::Fault;
 use treatment::{Fate, Level};
-use view::ViewAnswer;
+use write_state::Progress;
 
 // The eight numbers of an outcome: a refusal hands back the count that was given.
-fn numbers_of(outcome: HandedBack, used: u64) -> [u64; 8]
+fn numbers_of(outcome: Result<Progress, Fault>, used: u64) -> [u64; 8]
     ensures { result ≡ report_numbers (report_for used outcome) }
 {
     match outcome {
-        HandedBack::Refused(n, offset) => [n as u64, offset as u64, 0, used, 0, 0, 0, 0],
-        HandedBack::Done(t) => [
+        Err(fault) => {
+            let number = u64::from(fault.refusal.number());
+            [number, fault.offset as u64, 0, used, 0, 0, 0, 0]
+        }
+        Ok(t) => [
             0,
             0,
             t.pos as u64,
@@ -67,37 +70,27 @@ pub fn corravisk_deidentify<'a>(
 pub fn corravisk_view(lent: &[u8], tag: u64, answer: &mut [u64; 5])
     ensures { answer.new ≡ view_numbers (view_of (explicitly lent.now) tag) }
 {
-    let a = view::answer_to(lent, tag);
-    match a {
-        ViewAnswer::Found(body, past) => {
-            *answer = [0, 0, 1, body as u64, (past - body) as u64];
+    *answer = match view::answer_to(lent, tag) {
+        Ok(Some(part)) => {
+            let len = part.end - part.start;
+            [0, 0, 1, part.start as u64, len as u64]
         }
-        ViewAnswer::Absent => {
-            *answer = [0, 0, 0, 0, 0];
+        Ok(None) => [0; 5],
+        Err(fault) => {
+            let number = u64::from(fault.refusal.number());
+            [number, fault.offset as u64, 0, 0, 0]
         }
-        ViewAnswer::Refused(n, offset) => {
-            *answer = [n as u64, offset as u64, 0, 0, 0];
-        }
-    }
+    };
 }
 
-// The number of what happens to an element.
+// The number of what happens to an element: the cases of `Fate` stand in the order of the numbers.
 fn fate_number(fate: Fate) -> u64
     ensures { result ≡ fate_number fate }
 {
-    match fate {
-        Fate::Removed => 0,
-        Fate::Kept => 1,
-        Fate::Walked => 2,
-        Fate::Emptied => 3,
-        Fate::Dummied => 4,
-        Fate::Renamed => 5,
-        Fate::Shifted => 6,
-        Fate::Wrong => 7,
-    }
+    fate as u64
 }
 
-// The level that the caller's number means: 1 is the top.
+// The level that the caller's number means, since C hands numbers: 1 is the top.
 fn level_of(top: u64) -> Level
     ensures { result ≡ level_meant top }
 {

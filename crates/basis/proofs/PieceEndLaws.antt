@@ -3,20 +3,25 @@
 --     Cuts, cuts                               a text is one piece, or a piece, a backslash and the rest
 --     PieceEnd, piece_end-is                   what the end of a piece shows of the pieces
 --     pieces-last, pieces-more                 the piece is the last; others follow it
---     piece-more, piece-found, piece-last      the loop of `piece_end`: another byte; a backslash; the end
+--     piece-found                              what the search for a backslash finds is where the first piece ends
 use mathlib.Core.Path.{◌≡◌, refl, sym, ap, ◌∙◌, subst}
-use mathlib.Core.Bool.{Bool, true, false}
+use mathlib.Core.Bool.{Bool, true, false, not}
 use mathlib.Core.Logic.{◌≢◌}
 use mathlib.Core.List.{List, [], ◌∷◌, ◌++◌, append_cancel_left, tail-eq_of_cons-eq}
 use Prim.Native.Nat.{ℕ, suc, ◌+◌, ◌-◌, ◌≤◌, ◌<◌}
 use native.Mathlib.Omega.{arith}
-use borrow.Author.Tests.{eqb-true, eqb-false, ne_eqb}
-use lib.Dec.{eqb}
+use borrow.Author.Tests.{eqb-true, eqb-false, ne_eqb, ltb-false}
+use lib.Dec.{eqb, ltb}
+use Rattle.std.proofs.Common.{cond, position, Option, Some, None}
+use Rattle.std.specs.List.{position_or_len}
+use Rattle.std.specs.Option.{unwrap_or}
+use Rattle.std.proofs.lemmas.List.Recursion.{is_position_or_len}
+use Rattle.std.proofs.lemmas.List.Sums.{prefix_len-le-length}
 use lib.ListN.{length, take, get_or, length-append}
 use lib.Seq.{take-append_seam}
 use Rattle.basis.specs.Bytes.{part}
 use Rattle.basis.specs.Pieces.{backslash, on_first, pieces, first_piece, piece_end}
-use Rattle.basis.proofs.BytesLaws.{part-none, length-part, part-part, part-cons, part-front}
+use Rattle.basis.proofs.BytesLaws.{length-part, part-part, part-cons, part-front}
 use Rattle.basis.proofs.PiecesLaws.{Free, pieces-some}
 
 -- ---- first_piece
@@ -120,18 +125,21 @@ module _ (s : List ℕ) (a stop : ℕ) (le : a ≤ stop) (in_s : stop ≤ length
           subst (λ z. PieceEnd s a stop z) (sym k) (at-end f e h)
       step (cut r e f h) = at-mark b (first_piece (part s a stop)) r is e f refl h
 
-module _ (s : List ℕ) (e stop : ℕ) (lt : e < stop) (in_s : stop ≤ length s) where
-  pub piece-more : (get_or s e 0 ≡ backslash → ⊥) → piece_end s e stop ≡ piece_end s (e + 1) stop
-  piece-more n =
-      let h : first_piece (part s e stop) ≡ get_or s e 0 ∷ first_piece (part s (e + 1) stop) = ap first_piece (part-cons s e stop lt in_s) ∙ first_piece-cons _ _ n in
-      omega (arith, ap length h)
+-- ---- the search for the end of a piece
 
-  pub piece-found : get_or s e 0 ≡ backslash → e ≡ piece_end s e stop
-  piece-found is =
-      let h : first_piece (part s e stop) ≡ [] = ap first_piece (part-cons s e stop lt in_s ∙ ap (λ x. x ∷ part s (e + 1) stop) is) ∙ first_piece-stop _ in
-      omega (arith, ap length h)
+first_piece-place : (v : List ℕ) → length (first_piece v) ≡ position_or_len (λ x. eqb x backslash) v
+first_piece-place v = is_position_or_len (λ u. length (first_piece u)) (λ x. eqb x backslash) (ap length first_piece-none) (λ x u. step x u (eqb x backslash) refl) v
+  where
+    step : (x : ℕ) (u : List ℕ) (b : Bool) → eqb x backslash ≡ b → length (first_piece (x ∷ u)) ≡ cond b 0 (1 + length (first_piece u))
+    step x u true e = ap (λ y. length (first_piece (y ∷ u))) (eqb-true x backslash e) ∙ ap length (first_piece-stop u)
+    step x u false e = ap length (first_piece-cons x u (eqb-false x backslash e)) ∙ omega arith
 
-pub piece-last : (s : List ℕ) (e stop : ℕ) → e ≡ stop → e ≡ piece_end s e stop
-piece-last s e stop is =
-    let h : first_piece (part s e stop) ≡ [] = ap first_piece (ap (part s e) (sym is) ∙ part-none s e) ∙ first_piece-none in
-    omega (arith, ap length h)
+-- the place of the first backslash, else the end
+pub piece-found : (v : List ℕ) {found : Option ℕ} → found ≡ position (λ x. eqb x backslash) v → unwrap_or found (length v) ≡ length (first_piece v)
+piece-found v e =
+    ap (λ o. unwrap_or o (length v)) e
+    ∙ step (position_or_len (λ x. eqb x backslash) v) (first_piece-place v) (prefix_len-le-length (λ x. not (eqb x backslash)) v) (ltb (position_or_len (λ x. eqb x backslash) v) (length v)) refl
+  where
+    step : (i : ℕ) → length (first_piece v) ≡ i → i ≤ length v → (b : Bool) → ltb i (length v) ≡ b → unwrap_or (cond b (Some i) None) (length v) ≡ length (first_piece v)
+    step i is le true lt = sym is
+    step i is le false lt = omega (arith, ltb-false i (length v) lt)

@@ -5,8 +5,7 @@
 --     is_some o, is_none o         tests: something was found, or nothing
 --     every p xs                   the test p holds of each of xs
 --     among n xs                   n is one of xs
-use Rattle.std.specs.Prelude.{Bool, true, false, ◌&&◌, ◌||◌, List, [], ◌∷◌, ℕ, eqb}
-use Rattle.std.proofs.Math.Option.{Option, none, some}
+use Rattle.std.specs.Prelude.{Bool, true, false, ◌&&◌, ◌||◌, List, [], ◌∷◌, ℕ, eqb, Option, None, Some}
 
 abbrev pub pick : {A : Type 0} → Bool → A → A → A
 pick true x y = x
@@ -17,16 +16,16 @@ fork true x y = x tt
 fork false x y = y tt
 
 abbrev pub then : {A B : Type 0} → Option A → (A → Option B) → Option B
-then none f = none
-then (some a) f = f a
+then None f = None
+then (Some a) f = f a
 
 abbrev pub is_some : {A : Type 0} → Option A → Bool
-is_some none = false
-is_some (some a) = true
+is_some None = false
+is_some (Some a) = true
 
 abbrev pub is_none : {A : Type 0} → Option A → Bool
-is_none none = true
-is_none (some a) = false
+is_none None = true
+is_none (Some a) = false
 
 unfoldable pub every : {A : Type 0} → (A → Bool) → List A → Bool
 every p [] = true

@@ -4,10 +4,10 @@ use mathlib.Core.Path.{◌≡◌, refl, sym, ap, ◌∙◌}
 use mathlib.Core.List.{List, [], ◌∷◌, ◌++◌}
 use Prim.Native.Nat.{ℕ, zero, suc, ◌+◌, ◌-◌, ◌≤◌, ◌<◌}
 use native.Mathlib.Omega.{arith}
-use lib.ListN.{length, take, drop, get_or, set, replicate}
-use lib.Seq.{take-suc, get_or-drop, length-take-le, take_all, take-take}
-use lib.ListN.{length-drop}
-use Rattle.basis.specs.Bytes.{part}
+use lib.ListN.{length, take, drop, get_or, set, replicate, length-drop, length-replicate}
+use lib.Seq.{take_all, length-take-le}
+use Prim.Native.Nat.{min}
+use borrow.Rule.Slice.PartMut.{mid_of, put_mid}
 use Rattle.buffer.specs.Buffer.{laid, cleared}
 
 pub length-laid : (o : List ℕ) (p : ℕ) (xs : List ℕ) → length (laid o p xs) ≡ length o
@@ -83,13 +83,13 @@ pub laid-more : (o : List ℕ) (p : ℕ) (xs ys : List ℕ) {o₁ o₂ : List �
 laid-more o p xs ys {o₁} {o₂} {mid} e m f = f ∙ ap (λ z. laid z mid ys) e ∙ ap (λ n. laid (laid o p xs) n ys) m ∙ laid-laid o p xs ys
 
 -- clipped
-pub laid-clip : (o : List ℕ) (p n : ℕ) (xs : List ℕ) → length o ≤ p + n → laid o p xs ≡ laid o p (take n xs)
+pub laid-fits : (o : List ℕ) (p n : ℕ) (xs : List ℕ) → min (length xs) (length o - p) ≤ n → laid o p (take n xs) ≡ laid o p xs
 unfolding laid
-laid-clip [] p n xs h = refl
-laid-clip (y ∷ o) (suc p) n xs h = ap (λ l. y ∷ l) (laid-clip o p n xs (omega arith))
-laid-clip (y ∷ o) zero n [] h = ap (laid (y ∷ o) zero) (sym (take_all n [] (omega arith)))
-laid-clip (y ∷ o) zero zero (x ∷ xs) h = absurd (omega arith)
-laid-clip (y ∷ o) zero (suc n) (x ∷ xs) h = ap (λ l. x ∷ l) (laid-clip o zero n xs (omega arith))
+laid-fits [] p n xs h = refl
+laid-fits (y ∷ o) (suc p) n xs h = ap (λ l. y ∷ l) (laid-fits o p n xs (omega arith))
+laid-fits (y ∷ o) zero n [] h = ap (laid (y ∷ o) zero) (take_all n [] (omega arith))
+laid-fits (y ∷ o) zero zero (x ∷ xs) h = absurd (omega arith)
+laid-fits (y ∷ o) zero (suc n) (x ∷ xs) h = ap (λ l. x ∷ l) (laid-fits o zero n xs (omega arith))
 
 -- with room
 pub laid-whole : (o xs : List ℕ) → length xs ≤ length o → laid o zero xs ≡ xs ++ drop (length xs) o
@@ -125,22 +125,6 @@ cleared-laid [] (x ∷ xs) h = absurd (omega arith)
 cleared-laid (y ∷ o) [] h = let e : length (y ∷ o) - 0 ≡ length (y ∷ o) = omega arith in rw e (cleared-all (y ∷ o))
 cleared-laid (y ∷ o) (x ∷ xs) h = let e : length (y ∷ o) - length (x ∷ xs) ≡ length o - length xs = omega arith in rw e (ap (λ l. x ∷ l) (cleared-laid o xs (omega arith)))
 
--- one zero more
-zeros-step : (o : List ℕ) (i : ℕ) → i < length o → set (laid o zero (replicate i 0)) i 0 ≡ laid o zero (replicate (suc i) 0)
-unfolding laid
-zeros-step [] i k = absurd (omega arith)
-zeros-step (y ∷ o) zero k = ap (λ l. 0 ∷ l) (sym (laid-none o zero))
-zeros-step (y ∷ o) (suc i) k = ap (λ l. 0 ∷ l) (zeros-step o i (omega arith))
-
-pub cleared-step : (o : List ℕ) (p i : ℕ) → p ≤ i → i < length o → set (laid o p (replicate (i - p) 0)) i 0 ≡ laid o p (replicate (i + 1 - p) 0)
-unfolding laid
-cleared-step [] p i h k = absurd (omega arith)
-cleared-step (y ∷ o) (suc p) zero h k = absurd (omega arith)
-cleared-step (y ∷ o) (suc p) (suc i) h k =
-    let e : suc i - suc p ≡ i - p = omega arith in let f : suc i + 1 - suc p ≡ i + 1 - p = omega arith in
-    rw (e, f) (ap (λ l. y ∷ l) (cleared-step o p i (omega arith) (omega arith)))
-cleared-step (y ∷ o) zero i h k = let e : i - 0 ≡ i = omega arith in let f : i + 1 - 0 ≡ suc i = omega arith in rw (e, f) (zeros-step (y ∷ o) i k)
-
 zeros-all : (o : List ℕ) (n : ℕ) → length o ≤ n → laid o zero (replicate n 0) ≡ cleared o zero
 unfolding laid cleared
 zeros-all [] n h = refl
@@ -161,19 +145,18 @@ cleared-past [] p h = refl
 cleared-past (y ∷ o) (suc p) h = ap (λ l. y ∷ l) (cleared-past o p (omega arith))
 cleared-past (y ∷ o) zero h = absurd (omega arith)
 
--- one byte more of a block
-pub block-more : (o s : List ℕ) (p from i : ℕ) → from + i < length s → p + i < length o
-    → set (laid o p (take i (drop from s))) (p + i) (get_or s (from + i) 0) ≡ laid o p (take (i + 1) (drop from s))
-block-more o s p from i h k =
-    let l : i < length (drop from s) = simp length-drop (omega arith) in
-    let n : suc i ≡ i + 1 = omega arith in
-    let m : length (take i (drop from s)) ≡ i = length-take-le i (drop from s) (omega arith) in
-    laid-set (laid o p (take i (drop from s))) (p + i) (get_or s (from + i) 0) (rw (length-laid o p (take i (drop from s))) k)
-    ∙ ap (λ n. laid (laid o p (take i (drop from s))) (p + n) (get_or s (from + i) 0 ∷ [])) (sym m)
-    ∙ laid-laid o p (take i (drop from s)) (get_or s (from + i) 0 ∷ [])
-    ∙ ap (laid o p) (ap (λ x. take i (drop from s) ++ x ∷ []) (sym (get_or-drop from s i 0)) ∙ sym (take-suc (drop from s) i 0 l) ∙ ap (λ n. take n (drop from s)) n)
+-- ... by the part of it, k bytes from p on, in one piece
+pub laid-part : (o : List ℕ) (p k : ℕ) (xs ys : List ℕ) → p + k ≤ length o → k ≡ length xs → ys ≡ xs → put_mid p k o ys ≡ laid o p xs
+unfolding laid
+laid-part [] zero k [] ys h e f = rw (f, e) refl
+laid-part [] zero k (x ∷ xs) ys h e f = absurd (omega arith)
+laid-part [] (suc p) k xs ys h e f = absurd (omega arith)
+laid-part (y ∷ o) (suc p) k xs ys h e f = ap (λ l. y ∷ l) (laid-part o p k xs ys (omega arith) e f)
+laid-part (y ∷ o) zero k xs ys h e f = rw (f, e) (sym (laid-whole (y ∷ o) xs (omega arith)))
 
--- a block that is cut where the buffer ends
-pub laid-cut : (o s : List ℕ) (p a e : ℕ) → p < length o → length o - p < e - a → laid o p (take (length o - p) (drop a s)) ≡ laid o p (part s a e)
-laid-cut o s p a e h k =
-    ap (laid o p) (sym (take-take (length o - p) (e - a) (drop a s) (omega arith))) ∙ sym (laid-clip o p (length o - p) (part s a e) (omega arith))
+pub cleared-part : (o : List ℕ) (p : ℕ) (ys : List ℕ) → p ≤ length o → ys ≡ replicate (length (mid_of p (length o - p) o)) 0
+    → put_mid p (length o - p) o ys ≡ cleared o p
+cleared-part o p ys h e =
+    let n : length (mid_of p (length o - p) o) ≡ length o - p = length-take-le (length o - p) (drop p o) (simp length-drop (omega arith)) in
+    laid-part o p (length o - p) (replicate (length o - p) 0) ys (omega arith) (sym (length-replicate (length o - p) 0)) (e ∙ ap (λ k. replicate k 0) n)
+    ∙ cleared-is o p (length o) (omega arith) h

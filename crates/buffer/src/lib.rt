@@ -1,8 +1,9 @@
+// Clipped writing into a lent buffer. The buffer and the place in it are two parameters wherever something is written, and no struct: a
+// contract says what the buffer holds afterwards, and of one behind a struct's field it could say so only of each field.
 #![tactic(auto)]
 
-ghost use Rattle.std.specs.Prelude.{◌≡◌, ℕ, ◌+◌, ◌-◌, ◌*◌, ◌≤◌, ◌<◌, ◌^◌, List, [], ◌∷◌, length, take, drop};
-ghost use Rattle.basis.specs.Bytes.{part};
-ghost use Rattle.buffer.specs.Buffer.{laid, cleared};
+ghost use Rattle.std.specs.Prelude.{◌≡◌, ℕ, ◌+◌, ◌-◌, ◌*◌, ◌≤◌, ◌<◌, ◌^◌, List, [], ◌∷◌, length};
+ghost use Rattle.buffer.specs.Buffer.{laid, cleared, Puts};
 
 // One byte at `pos`, where there is room for it.
 pub fn put(out: &mut [u8], pos: usize, x: u8)
@@ -13,43 +14,31 @@ pub fn put(out: &mut [u8], pos: usize, x: u8)
     }
 }
 
-// `n` bytes of `s` from `from` on, for which there is room at `pos`.
-pub fn copy(s: &[u8], from: usize, n: usize, out: &mut [u8], pos: usize)
-    requires { (from + n ≤ length s.now) × (pos + n ≤ length out.old) }
-    ensures { out.new ≡ laid out.old pos (take n (drop from s.now)) }
+// All of `bytes` at `pos`, where there is room for them.
+pub fn copy(bytes: &[u8], out: &mut [u8], pos: usize)
+    requires { pos + length bytes.now ≤ length out.old }
+    ensures { out.new ≡ laid out.old pos bytes.now }
 {
-    let mut i = 0;
-    while i < n {
-        out[pos + i] = s[from + i];
-        i += 1;
-    }
+    out[pos..pos + bytes.len()].copy_from_slice(bytes);
 }
 
-// The bytes of `s` from `from` up to `to`, at `pos`, as far as there is room; the place past all of them.
-pub fn copy_block(s: &[u8], from: usize, to: usize, out: &mut [u8], pos: usize) -> usize
-    requires { (from ≤ to) × (to ≤ length s.now) × (pos + (to - from) < 2 ^ 64) }
-    ensures { (result ≡ pos + (to - from)) × (out.new ≡ laid out.old pos (part s.now from to)) }
+// As much of `bytes` as there is room for at `pos`; the place past all of them.
+pub fn copy_block(bytes: &[u8], out: &mut [u8], pos: usize) -> usize
+    requires { pos + length bytes.now < 2 ^ 64 }
+    ensures { Puts bytes.now out.old pos out.new result }
 {
-    let len = to - from;
-    if out.len() <= pos {
-        return pos + len;
+    if pos < out.len() {
+        let fits = bytes.len().min(out.len() - pos);
+        copy(&bytes[..fits], out, pos);
     }
-    let room = out.len() - pos;
-    if room < len {
-        copy(s, from, room, out, pos);
-        return pos + len;
-    }
-    copy(s, from, len, out, pos);
-    pos + len
+    pos + bytes.len()
 }
 
 // Zeros from `pos` to the end.
 pub fn zero_from(out: &mut [u8], pos: usize)
     ensures { out.new ≡ cleared out.old pos }
 {
-    let mut i = pos;
-    while i < out.len() {
-        out[i] = 0;
-        i += 1;
+    if pos < out.len() {
+        out[pos..].fill(0);
     }
 }

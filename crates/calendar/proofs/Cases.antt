@@ -2,7 +2,7 @@
 -- Assumes nothing.
 use mathlib.Core.Path.{◌≡◌, refl}
 use mathlib.Core.Bool.{Bool, true, false}
-use mathlib.Core.Option.{none, some}
+use Rattle.std.specs.Prelude.{None, Some}
 use mathlib.Core.List.{List, [], ◌∷◌, ◌++◌}
 use Prim.Native.Nat.{ℕ}
 use Prim.Native.Char.{code}
@@ -21,10 +21,10 @@ text (led c s) = code c ∷ text s
 
 -- a value is shifted to another; a value is refused with 12
 abbrev Shifts : Bool → ℤ → String → String → Type 0
-Shifts da days v x = shifted_value da days (text v) ≡ some (text x)
+Shifts da days v x = shifted_value da days (text v) ≡ Some (text x)
 
 abbrev Refuses : Bool → ℤ → List ℕ → Type 0
-Refuses da days v = shifted_value da days v ≡ none
+Refuses da days v = shifted_value da days v ≡ None
 
 abbrev DA : Bool
 DA = true
@@ -78,10 +78,10 @@ pub cases :
     × Shifts DT on "20231231235959.999999+0100" "20240101235959.999999+0100"
     × Shifts DT back "20200301\\20190301 " "20200229\\20190228 "
     × Shifts DT back "20200301Z\\20190301\\2024010108" "20200229Z\\20190228\\2023123108"
-    × (shifted_value DT back (text "20200301" ++ 0 ∷ 0 ∷ []) ≡ some (text "20200229" ++ 0 ∷ 0 ∷ []))
+    × (shifted_value DT back (text "20200301" ++ 0 ∷ 0 ∷ []) ≡ Some (text "20200229" ++ 0 ∷ 0 ∷ []))
     -- an empty value stays empty
-    × (shifted_value DA back [] ≡ some [])
-    × (shifted_value DT back [] ≡ some [])
+    × (shifted_value DA back [] ≡ Some [])
+    × (shifted_value DT back [] ≡ Some [])
     -- malformed: too few or too many characters, others than digits, a range, dots
     × Refuses DA same (text "2020030 ")
     × Refuses DA same (text "2020030101")

@@ -3,7 +3,7 @@
 --     year-high       at most a quarter of a day more than 365 for each year
 --     first-days      the days before the first year
 --     year-long       a year has at most 366 days
---     month-closed    the days of a month; `month-none` where there is no such month; `month-short` bounds them by 31
+--     month-none      there is no such month, so it has no day; `month-short` bounds the days of a month by 31
 --     before-month    the days before a month; `month-high` bounds them by 31 for each month
 --     whole-year      the months make the year
 --     month-below, month-in    the month of a day of the year is one of the twelve
@@ -110,17 +110,6 @@ below-at p (suc n) k e l =
 
 abbrev lens : Bool → ℕ → ℕ
 lens l m = get_or (month_lens l) m 0
-
-abbrev pub month_closed : Bool → ℕ → ℕ
-month_closed l m = pick (ltb m 1) 0 (pick (eqb m 2) (pick l 29 28) (30 + (m + m / 8) % 2))
-
-pub month-closed : (y m : ℕ) → m ≤ 12 → month_len y m ≡ month_closed (leap y) m
-unfolding month_len below
-month-closed y m h = eqb-true _ _ (below-at (λ k. eqb (lens (leap y) k) (month_closed (leap y) k)) 13 m (all (leap y)) (omega arith))
-  where
-    all : (l : Bool) → below (λ k. eqb (lens l k) (month_closed l k)) 13 ≡ true
-    all true = refl
-    all false = refl
 
 pub month-none : (y m : ℕ) → 12 < m → month_len y m ≡ 0
 unfolding month_len

@@ -8,14 +8,15 @@
 --     low-date, high-date        and no others
 --     later-back                 a number moved on, and back again
 --     moved-is, is-moved         what `moved` says, both ways
---     moved-in, moved-low, moved-high, moved-none    one for each way through `Date::shifted`
+--     moved-in, moved-low, moved-high    one for each way through `Date::shifted` of a real day
 --     moved-back, moved-zero     a shift and the opposite one; a shift by 0
 --     moved-injective            two dates that one shift takes to one date are one date
 --     refusal-moved              where an answer is refusal 12
 use mathlib.Core.Path.{◌≡◌, refl, sym, ap, ap₂, ◌∙◌, subst}
 use mathlib.Core.Bool.{Bool, true, false, ◌&&◌, false≢true, and-eq-true_iff}
 use mathlib.Core.Logic.{⊎_elim}
-use mathlib.Core.Option.{Option, none, some, none-ne-some, some-injective}
+use Rattle.std.specs.Prelude.{Option, None, Some}
+use Rattle.std.proofs.lemmas.Option.{none-some, same_Some}
 use Prim.Native.Nat.{ℕ, zero, suc, ◌+◌, ◌-◌, ◌≤◌, ◌<◌, ◌^◌}
 use native.Mathlib.Omega.{arith}
 use lib.Dec.{leb}
@@ -23,10 +24,8 @@ use lib.IntN.{ℤ, pos, negsuc, neg_ℤ}
 use borrow.Author.Tests.{leb-true, le-leb}
 use Rattle.basis.specs.Choice.{pick, then}
 use Rattle.calendar.specs.Spans.{before, InSpan, span_at}
-use Rattle.calendar.specs.Dates.{first_year, last_year, year_len, month_len, day_number, date_of, real, only_real, later, moved, date_in, refusal_in}
+use Rattle.calendar.specs.Dates.{first_year, last_year, year_len, month_len, day_number, date_of, real, only_real, later, moved, refusal_in}
 use Rattle.calendar.specs.declared.Date.{Date}
-use Rattle.calendar.specs.declared.Moved.{Moved}
-use Rattle.calendar.specs.declared.Moved.TheVariants.{To, Refused}
 use Rattle.calendar.proofs.SpansLaws.{lt-or-le, before-none, before-one, before-mono, in_span-below, span_at-found, span_at-is, span_at-first, span_at-past}
 use Rattle.calendar.proofs.Closed.{year-high, year-long, month-none, whole-year}
 
@@ -177,48 +176,44 @@ pub record IsMoved (x : Date) (z : ℤ) (y : Date) : Type 0 where
   pub to : Real y
   pub by : day_number y ≡ later (day_number x) z
 
-pub moved-is : (x : Date) (z : ℤ) (y : Date) → moved x z ≡ some y → IsMoved x z y
+pub moved-is : (x : Date) (z : ℤ) (y : Date) → moved x z ≡ Some y → IsMoved x z y
 moved-is x z y e = start (real x) refl e
   where
     end : (n : ℕ) → n ≡ later (day_number x) z → (b : Bool) → real (date_of n) ≡ b → real x ≡ true
-        → ◌≡◌ {A = Option Date} (pick b (some (date_of n)) none) (some y) → IsMoved x z y
+        → ◌≡◌ {A = Option Date} (pick b (Some (date_of n)) None) (Some y) → IsMoved x z y
     end n q true f g e =
-        let s : date_of n ≡ y = some-injective (date_of n) y e in
+        let s : date_of n ≡ y = same_Some (date_of n) y e in
         let b = date-bounds n f in
         record {
           from = real-is x g;
           to = subst Real s (real-is (date_of n) f);
           by = ap day_number (sym s) ∙ number-date n (omega (arith, b.0)) b.1 ∙ q;
         }
-    end n q false f g e = absurd (none-ne-some y e)
+    end n q false f g e = absurd (none-some y e)
 
-    start : (b : Bool) → real x ≡ b → then (pick b (some x) none) (λ d. only_real (date_of (later (day_number d) z))) ≡ some y → IsMoved x z y
+    start : (b : Bool) → real x ≡ b → then (pick b (Some x) None) (λ d. only_real (date_of (later (day_number d) z))) ≡ Some y → IsMoved x z y
     start true f e = end (later (day_number x) z) refl (real (date_of (later (day_number x) z))) refl f e
-    start false f e = absurd (none-ne-some y e)
+    start false f e = absurd (none-some y e)
 
-pub is-moved : (x : Date) (z : ℤ) (y : Date) → IsMoved x z y → moved x z ≡ some y
+pub is-moved : (x : Date) (z : ℤ) (y : Date) → IsMoved x z y → moved x z ≡ Some y
 is-moved x z y m =
     rw (is-real x m.from, ap date_of (sym m.by) ∙ date-number y m.to, is-real y m.to) refl
 
--- one for each way through `Date::shifted`
-module _ (x : Date) (z : ℤ) {z' : ℤ} {a b n : ℕ} (same : z' ≡ z) (f : a ≡ before year_len x.year)
-    (g : b ≡ before (month_len x.year) x.month) (h : n ≡ later (a + (b + x.day)) z') {t : Bool} (r : t ≡ real x) (yes : t ≡ true) where
+-- one for each way through `Date::shifted` of a real day
+module _ (x : Date) (z : ℤ) {z' : ℤ} {m n : ℕ} (same : z' ≡ z) (f : m ≡ day_number x) (h : n ≡ later m z') {t : Bool} (r : t ≡ real x) (yes : t ≡ true) where
   number-is : later (day_number x) z ≡ n
-  number-is = sym (h ∙ ap₂ later (ap₂ (λ i j. i + (j + x.day)) f g) same)
+  number-is = sym (h ∙ ap₂ later f same)
 
-  pub moved-in : before year_len first_year < n → n ≤ before year_len (last_year + 1) → some (date_of n) ≡ moved x z
+  pub moved-in : before year_len first_year < n → n ≤ before year_len (last_year + 1) → Some (date_of n) ≡ moved x z
   moved-in l u = rw (sym r ∙ yes, number-is, is-real (date_of n) (real-date n l u)) refl
 
-  pub moved-low : n ≤ before year_len first_year → none ≡ moved x z
+  pub moved-low : n ≤ before year_len first_year → None ≡ moved x z
   moved-low l = rw (sym r ∙ yes, number-is, low-date n l) refl
 
-  pub moved-high : before year_len (last_year + 1) < n → none ≡ moved x z
+  pub moved-high : before year_len (last_year + 1) < n → None ≡ moved x z
   moved-high u = rw (sym r ∙ yes, number-is, high-date n u) refl
 
-pub moved-none : (x : Date) (z : ℤ) → real x ≡ false → none ≡ moved x z
-moved-none x z f = rw f refl
-
-pub moved-back : (x : Date) (z : ℤ) (y : Date) → moved x z ≡ some y → moved y (neg_ℤ z) ≡ some x
+pub moved-back : (x : Date) (z : ℤ) (y : Date) → moved x z ≡ Some y → moved y (neg_ℤ z) ≡ Some x
 moved-back x z y e =
     let m : IsMoved x z y = moved-is x z y e in
     let p : 1 ≤ later (day_number x) z = omega (arith, m.by, m.to.d₁) in
@@ -228,15 +223,15 @@ moved-back x z y e =
       by = sym (ap (λ n. later n (neg_ℤ z)) m.by ∙ later-back (day_number x) z p);
     })
 
-pub moved-zero : (x : Date) → Real x → moved x (pos 0) ≡ some x
+pub moved-zero : (x : Date) → Real x → moved x (pos 0) ≡ Some x
 moved-zero x r = is-moved x (pos 0) x (record { from = r; to = r; by = omega arith })
 
-pub moved-injective : (x y e : Date) (z : ℤ) → moved x z ≡ some e → moved y z ≡ some e → x ≡ y
-moved-injective x y e z p q = some-injective x y (sym (moved-back x z e p) ∙ moved-back y z e q)
+pub moved-injective : (x y e : Date) (z : ℤ) → moved x z ≡ Some e → moved y z ≡ Some e → x ≡ y
+moved-injective x y e z p q = same_Some x y (sym (moved-back x z e p) ∙ moved-back y z e q)
 
 -- ---- refusal_in
 
 -- an answer that gives what `moved` gives is refusal 12 exactly where `moved` gives nothing
-pub refusal-moved : (r : Moved) (x : Date) (z : ℤ) → date_in r ≡ moved x z → (refusal_in r ≡ 12 → moved x z ≡ none) × (moved x z ≡ none → refusal_in r ≡ 12)
-refusal-moved (To d) x z e = (λ f. absurd (omega arith), λ f. absurd (none-ne-some d (sym (e ∙ f))))
-refusal-moved Refused x z e = (λ _. sym e, λ _. refl)
+pub refusal-moved : (r : Option Date) (x : Date) (z : ℤ) → r ≡ moved x z → (refusal_in r ≡ 12 → moved x z ≡ None) × (moved x z ≡ None → refusal_in r ≡ 12)
+refusal-moved (Some d) x z e = (λ f. absurd (omega arith), λ f. absurd (none-some d (sym (e ∙ f))))
+refusal-moved None x z e = (λ _. sym e, λ _. refl)

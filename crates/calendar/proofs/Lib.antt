@@ -1,10 +1,9 @@
 pub mod SpansLaws
 pub mod Closed
 pub mod DatesLaws
-pub mod Signs
 pub mod TextLaws
 pub mod ValuesLaws
-pub mod Walks
+pub mod SplitLaws
 pub mod Judging
 pub mod Writing
 pub mod Cases

@@ -14,7 +14,8 @@
 use mathlib.Core.Path.{◌≡◌, refl, sym, ap, ap₂, ◌∙◌, subst}
 use mathlib.Core.Bool.{Bool, true, false, ◌&&◌, false≢true, and-eq-true_iff, and-false, or-true}
 use mathlib.Core.Logic.{◌⊎◌, inl, inr, ⊎_elim}
-use mathlib.Core.Option.{Option, none, some, none-ne-some, some-injective}
+use Rattle.std.specs.Prelude.{Option, None, Some}
+use Rattle.std.proofs.lemmas.Option.{none-some, same_Some}
 use mathlib.Core.List.{List, [], ◌∷◌, ◌++◌, map, append-nil}
 use Prim.Native.Nat.{ℕ, suc, ◌-◌, ◌%◌, ◌≤◌, ◌<◌}
 use native.Mathlib.Omega.{arith}
@@ -116,10 +117,10 @@ module _ (days : ℤ) where
 -- ---- shifted_text
 
 module _ (da : Bool) (days : ℤ) (v : List ℕ) where
-  abbrev shifted : List ℕ
+  abbrev pub shifted : List ℕ
   shifted = joined (map (shifted_piece da days) (date_pieces da v))
 
-  length-shifted : length shifted ≡ dates_end da v
+  pub length-shifted : length shifted ≡ dates_end da v
   length-shifted =
       length-joined (shifted_piece da days) (length-shifted_piece da days) (date_pieces da v)
       ∙ ap length (joined-pieces (take (dates_end da v) v)) ∙ length-dates da v
@@ -189,9 +190,9 @@ dates_end-shifted da days v h = ap₂ (λ b n. pick b (n - 1) n) (padded-shifted
 
 -- ---- shifted_value
 
-pub shifted_value-nil : (da : Bool) (days : ℤ) → shifted_value da days [] ≡ some []
+pub shifted_value-nil : (da : Bool) (days : ℤ) → shifted_value da days [] ≡ Some []
 unfolding shifted_value
-shifted_value-nil da days = ap some (empty (shifted_text da days []) (length-shifted_text da days []))
+shifted_value-nil da days = ap Some (empty (shifted_text da days []) (length-shifted_text da days []))
   where
     empty : (x : List ℕ) → length x ≡ 0 → x ≡ []
     empty [] e = refl
@@ -201,56 +202,56 @@ pub record IsShifted (da : Bool) (days : ℤ) (v x : List ℕ) : Type 0 where
   pub moves : (v ≡ []) ⊎ (all_move da days (date_pieces da v) ≡ true)
   pub text : x ≡ shifted_text da days v
 
-pub shifted_value-is : (da : Bool) (days : ℤ) (v x : List ℕ) → shifted_value da days v ≡ some x → IsShifted da days v x
+pub shifted_value-is : (da : Bool) (days : ℤ) (v x : List ℕ) → shifted_value da days v ≡ Some x → IsShifted da days v x
 unfolding shifted_value
-shifted_value-is da days [] x e = record { moves = inl refl; text = sym (some-injective _ x e) }
+shifted_value-is da days [] x e = record { moves = inl refl; text = sym (same_Some _ x e) }
 shifted_value-is da days (y ∷ v) x e = go (all_move da days (date_pieces da (y ∷ v))) refl e
   where
     go : (b : Bool) → all_move da days (date_pieces da (y ∷ v)) ≡ b
-        → ◌≡◌ {A = Option (List ℕ)} (fork b (λ _. some (shifted_text da days (y ∷ v))) (λ _. none)) (some x) → IsShifted da days (y ∷ v) x
-    go true h e = record { moves = inr h; text = sym (some-injective _ x e) }
-    go false h e = absurd (none-ne-some x e)
+        → ◌≡◌ {A = Option (List ℕ)} (fork b (λ _. Some (shifted_text da days (y ∷ v))) (λ _. None)) (Some x) → IsShifted da days (y ∷ v) x
+    go true h e = record { moves = inr h; text = sym (same_Some _ x e) }
+    go false h e = absurd (none-some x e)
 
-pub is-shifted_value : (da : Bool) (days : ℤ) (v : List ℕ) → all_move da days (date_pieces da v) ≡ true → shifted_value da days v ≡ some (shifted_text da days v)
+pub is-shifted_value : (da : Bool) (days : ℤ) (v : List ℕ) → all_move da days (date_pieces da v) ≡ true → shifted_value da days v ≡ Some (shifted_text da days v)
 unfolding shifted_value
 is-shifted_value da days v h = rw (h, or-true (is_empty v)) refl
 
-pub shifted_value-text : (da : Bool) (days : ℤ) (v x : List ℕ) → shifted_value da days v ≡ some x → shifted_text da days v ≡ x
+pub shifted_value-text : (da : Bool) (days : ℤ) (v x : List ℕ) → shifted_value da days v ≡ Some x → shifted_text da days v ≡ x
 shifted_value-text da days v x e = sym (shifted_value-is da days v x e).text
 
 -- by the answer of `date_fault`
-pub shifted_value-refused : (da : Bool) (days : ℤ) (v : List ℕ) → is_none (shifted_value da days v) ≡ true → shifted_value da days v ≡ none
+pub shifted_value-refused : (da : Bool) (days : ℤ) (v : List ℕ) → is_none (shifted_value da days v) ≡ true → shifted_value da days v ≡ None
 shifted_value-refused da days v e = go (shifted_value da days v) e
   where
-    go : (o : Option (List ℕ)) → is_none o ≡ true → o ≡ none
-    go none e = refl
-    go (some x) e = absurd (false≢true e)
+    go : (o : Option (List ℕ)) → is_none o ≡ true → o ≡ None
+    go None e = refl
+    go (Some x) e = absurd (false≢true e)
 
-pub shifted_value-good : (da : Bool) (days : ℤ) (v : List ℕ) → is_none (shifted_value da days v) ≡ false → shifted_value da days v ≡ some (shifted_text da days v)
+pub shifted_value-good : (da : Bool) (days : ℤ) (v : List ℕ) → is_none (shifted_value da days v) ≡ false → shifted_value da days v ≡ Some (shifted_text da days v)
 shifted_value-good da days v e = go (shifted_value da days v) refl e
   where
-    go : (o : Option (List ℕ)) → shifted_value da days v ≡ o → is_none o ≡ false → shifted_value da days v ≡ some (shifted_text da days v)
-    go none h e = absurd (false≢true (sym e))
-    go (some x) h e = h ∙ ap some (sym (shifted_value-text da days v x h))
+    go : (o : Option (List ℕ)) → shifted_value da days v ≡ o → is_none o ≡ false → shifted_value da days v ≡ Some (shifted_text da days v)
+    go None h e = absurd (false≢true (sym e))
+    go (Some x) h e = h ∙ ap Some (sym (shifted_value-text da days v x h))
 
-pub shifted_value-length : (da : Bool) (days : ℤ) (v x : List ℕ) → shifted_value da days v ≡ some x → length x ≡ length v
+pub shifted_value-length : (da : Bool) (days : ℤ) (v x : List ℕ) → shifted_value da days v ≡ Some x → length x ≡ length v
 shifted_value-length da days v x e = ap length (sym (shifted_value-text da days v x e)) ∙ length-shifted_text da days v
 
 -- a value w whose pieces a shift takes to the pieces us
 text-again : (da : Bool) (days : ℤ) (w : List ℕ) (us : List (List ℕ)) (t : List ℕ) → AllAgain da days (date_pieces da w) us → drop (dates_end da w) w ≡ t
-    → shifted_value da days w ≡ some (joined us ++ t)
+    → shifted_value da days w ≡ Some (joined us ++ t)
 unfolding shifted_text
 text-again da days w us t a e =
-    is-shifted_value da days w a.moves ∙ ap some (ap₂ (λ ps r. joined ps ++ r) a.gives e)
+    is-shifted_value da days w a.moves ∙ ap Some (ap₂ (λ ps r. joined ps ++ r) a.gives e)
 
 -- the pieces of a value, joined, and its pad
 whole : (da : Bool) (v : List ℕ) → joined (date_pieces da v) ++ drop (dates_end da v) v ≡ v
 whole da v = ap (λ w. w ++ drop (dates_end da v) v) (joined-pieces (take (dates_end da v) v)) ∙ take-append-drop (dates_end da v) v
 
-nil-again : (da : Bool) (days : ℤ) (v x : List ℕ) → x ≡ [] → v ≡ [] → shifted_value da days x ≡ some v
-nil-again da days v x e f = ap (shifted_value da days) e ∙ shifted_value-nil da days ∙ ap some (sym f)
+nil-again : (da : Bool) (days : ℤ) (v x : List ℕ) → x ≡ [] → v ≡ [] → shifted_value da days x ≡ Some v
+nil-again da days v x e f = ap (shifted_value da days) e ∙ shifted_value-nil da days ∙ ap Some (sym f)
 
-back-again : (da : Bool) (days : ℤ) (v : List ℕ) → all_move da days (date_pieces da v) ≡ true → shifted_value da (neg_ℤ days) (shifted_text da days v) ≡ some v
+back-again : (da : Bool) (days : ℤ) (v : List ℕ) → all_move da days (date_pieces da v) ≡ true → shifted_value da (neg_ℤ days) (shifted_text da days v) ≡ Some v
 unfolding shifted_text
 back-again da days v h =
     let w : List ℕ = shifted_text da days v in
@@ -263,22 +264,22 @@ back-again da days v h =
     ∙ pieces-shifted da days us (pieces-some (take (dates_end da v) v)) (pieces-free (take (dates_end da v) v)) in
     text-again da (neg_ℤ days) w us t (subst (λ z. AllAgain da (neg_ℤ days) z us) (sym ps) (all-back da days us h))
     (ap (λ k. drop k w) e ∙ drop_at (shifted da days v) t (dates_end da v) n)
-    ∙ ap some (whole da v)
+    ∙ ap Some (whole da v)
 
-pub shifted_value-back : (da : Bool) (days : ℤ) (v x : List ℕ) → shifted_value da days v ≡ some x → shifted_value da (neg_ℤ days) x ≡ some v
+pub shifted_value-back : (da : Bool) (days : ℤ) (v x : List ℕ) → shifted_value da days v ≡ Some x → shifted_value da (neg_ℤ days) x ≡ Some v
 shifted_value-back da days v x e =
     let s : IsShifted da days v x = shifted_value-is da days v x e in
-    ⊎_elim (λ n. nil-again da (neg_ℤ days) v x (some-injective x [] (sym e ∙ ap (shifted_value da days) n ∙ shifted_value-nil da days)) n)
+    ⊎_elim (λ n. nil-again da (neg_ℤ days) v x (same_Some x [] (sym e ∙ ap (shifted_value da days) n ∙ shifted_value-nil da days)) n)
     (λ h. ap (shifted_value da (neg_ℤ days)) s.text ∙ back-again da days v h) s.moves
 
-pub shifted_value-inj : (da : Bool) (days : ℤ) (v w x : List ℕ) → shifted_value da days v ≡ some x → shifted_value da days w ≡ some x → v ≡ w
-shifted_value-inj da days v w x e f = some-injective v w (sym (shifted_value-back da days v x e) ∙ shifted_value-back da days w x f)
+pub shifted_value-inj : (da : Bool) (days : ℤ) (v w x : List ℕ) → shifted_value da days v ≡ Some x → shifted_value da days w ≡ Some x → v ≡ w
+shifted_value-inj da days v w x e f = same_Some v w (sym (shifted_value-back da days v x e) ∙ shifted_value-back da days w x f)
 
-pub shifted_value-zero : (da : Bool) (days : ℤ) (v x : List ℕ) → shifted_value da days v ≡ some x → shifted_value da (pos 0) v ≡ some v
+pub shifted_value-zero : (da : Bool) (days : ℤ) (v x : List ℕ) → shifted_value da days v ≡ Some x → shifted_value da (pos 0) v ≡ Some v
 shifted_value-zero da days v x e =
     ⊎_elim (λ n. nil-again da (pos 0) v v n n)
-    (λ h. text-again da (pos 0) v (date_pieces da v) (drop (dates_end da v) v) (all-zero da days (date_pieces da v) h) refl ∙ ap some (whole da v))
+    (λ h. text-again da (pos 0) v (date_pieces da v) (drop (dates_end da v) v) (all-zero da days (date_pieces da v) h) refl ∙ ap Some (whole da v))
     (shifted_value-is da days v x e).moves
 
-pub shifted_value-again : (da : Bool) (days : ℤ) (v x : List ℕ) → shifted_value da days v ≡ some x → shifted_value da (pos 0) x ≡ some x
+pub shifted_value-again : (da : Bool) (days : ℤ) (v x : List ℕ) → shifted_value da days v ≡ Some x → shifted_value da (pos 0) x ≡ Some x
 shifted_value-again da days v x e = shifted_value-zero da (neg_ℤ days) x v (shifted_value-back da days v x e)

@@ -1,164 +1,159 @@
--- The loop of `put_shifted`, and the ways through `put_piece`. No contract cites this file. Assumes nothing.
---     put-same, put-moved      the ways out of `put_piece`; `put-long`: a piece whose date can be moved has room for one
---     Writing                  what is known where a piece begins: what is written, and that the pieces left make it whole
---     write-start              it is known at the first piece
---     write-cut, write-end     where the piece ends, and its text
---     write-next, write-size   the place of the next piece is no more than that past all; the buffer's length
---     write-last, write-on     the piece is the last, or it is not
+-- The pieces that `put_shifted` writes, one after another, and a piece that `put_piece` writes. No contract cites this file. Assumes nothing.
+--     put-moved                  a piece whose date can be moved is written with the other date
+--     rest-all                   a slice from a place to the end has all that follows
+--     front da days v k          the text of the first k pieces of the value v
+--     Writing                    what is known where a piece begins: the pieces before it are written
+--     Marked                     what is known before the piece itself: so is the backslash before it
+--     write-start                it is known at the first piece
+--     write-mark, write-first    the backslash is written; the first piece has none
+--     write-place, write-on      there is a place for the piece; it is written
+--     write-room, write-last     there is no piece left: there is a place for the pad; it is written
 use mathlib.Core.Path.{◌≡◌, refl, sym, ap, ap₂, ◌∙◌}
 use mathlib.Core.Bool.{Bool}
-use mathlib.Core.Option.{Option, none, some}
-use mathlib.Core.List.{List, [], ◌∷◌, ◌++◌, map, append_assoc}
-use Prim.Native.Nat.{ℕ, ◌+◌, ◌-◌, ◌≤◌, ◌<◌}
+use Rattle.std.specs.Prelude.{Option, Some}
+use Rattle.std.proofs.lemmas.List.{take_more, get_or-map, length-map}
+use mathlib.Core.List.{List, [], ◌∷◌, ◌++◌, map, append_assoc, append-nil}
+use Prim.Native.Nat.{ℕ, zero, suc, ◌+◌, ◌-◌, ◌≤◌, ◌<◌}
 use native.Mathlib.Omega.{arith}
 use lib.IntN.{ℤ}
-use lib.ListN.{length, drop, length-append}
-use lib.Seq.{drop_at}
-use Rattle.basis.specs.Bytes.{part}
-use Rattle.basis.specs.Pieces.{backslash, pieces, joined, piece_end}
-use Rattle.basis.proofs.BytesLaws.{length-part, part-part}
-use Rattle.basis.proofs.PiecesLaws.{pieces-some, joined-more, joined-one}
-use Rattle.basis.proofs.PieceEndLaws.{PieceEnd, piece_end-is}
+use lib.ListN.{length, take, drop, get_or, length-append, length-drop}
+use lib.Seq.{length-take-le, take-length}
+use Rattle.basis.specs.Pieces.{backslash, after, joined}
 use Rattle.buffer.specs.Buffer.{laid}
-use Rattle.buffer.proofs.Laws.{laid-none, laid-more, length-laid}
+use Rattle.buffer.proofs.Laws.{laid-none, laid-more}
 use Rattle.calendar.specs.Text.{date_length, date_text, moved_date, with_date, shifted_piece}
-use Rattle.calendar.specs.Values.{dates_end, shifted_text}
+use Rattle.calendar.specs.Values.{dates_end, date_pieces, shifted_text}
 use Rattle.calendar.specs.declared.Date.{Date}
-use Rattle.calendar.proofs.TextLaws.{right-long, moved-date-is, length-shifted_piece}
-use Rattle.calendar.proofs.Walks.{dates-upto, dates-take, dates-drop}
+use Rattle.calendar.proofs.TextLaws.{length-shifted_piece}
+use Rattle.calendar.proofs.ValuesLaws.{dates_end-le, length-shifted}
 
 -- ---- put_piece
 
-module _ (da : Bool) (s : List ℕ) (a b : ℕ) (in_s : b ≤ length s) (days : ℤ) {days' : ℤ} (same : days' ≡ days) {r : Option Date}
-    (m : r ≡ moved_date da days' (part s a b)) where
-  now-is : r ≡ moved_date da days (part s a b)
-  now-is = m ∙ ap (λ z. moved_date da z (part s a b)) same
+pub put-moved : (da : Bool) (days : ℤ) (u : List ℕ) {days' : ℤ} {d : Date} {r : Option Date} → days' ≡ days → r ≡ moved_date da days' u → r ≡ Some d
+    → (o : List ℕ) (pos : ℕ) {o₁ o₂ : List ℕ} → o₁ ≡ laid o pos (date_text d)
+    → o₂ ≡ laid o₁ (pos + date_length) (drop date_length u) → o₂ ≡ laid o pos (shifted_piece da days u)
+put-moved da days u {d = d} same m f o pos g h =
+    laid-more o pos (date_text d) (drop date_length u) g refl h
+    ∙ ap (λ s. laid o pos (with_date u s)) (sym f ∙ m ∙ ap (λ z. moved_date da z u) same)
 
-  pub put-same : r ≡ none → part s a b ≡ shifted_piece da days (part s a b)
-  put-same f = ap (with_date (part s a b)) (sym f ∙ now-is)
+-- what a slice from a place to its end has
+pub rest-all : (n : ℕ) (u : List ℕ) → take (length u - n) (drop n u) ≡ drop n u
+rest-all n u = ap (λ k. take k (drop n u)) (sym (length-drop n u)) ∙ take-length (drop n u)
 
-  module _ {d : Date} (f : r ≡ some d) where
-    date-is : some d ≡ moved_date da days (part s a b)
-    date-is = sym f ∙ now-is
+-- ---- joined
 
-    pub put-long : a + date_length ≤ b
-    put-long = omega (arith, right-long da (length (part s a b)) (moved-date-is da days (part s a b) d (sym date-is)).right, length-part s a b in_s)
+-- what stands before a piece that k others come before
+abbrev mark : ℕ → List ℕ
+mark zero = []
+mark (suc k) = backslash ∷ []
 
-    rest : drop date_length (part s a b) ≡ part s (a + date_length) b
-    rest =
-        ap (drop date_length) (part-part s a (a + date_length) b (omega arith) put-long)
-        ∙ drop_at (part s a (a + date_length)) (part s (a + date_length) b) date_length
-        (omega (arith, length-part s a (a + date_length) (omega (arith, put-long))))
+after-next : (us : List (List ℕ)) (u : List ℕ) → after (us ++ u ∷ []) ≡ after us ++ backslash ∷ u
+unfolding after
+after-next [] u = ap (λ w. backslash ∷ w) (append-nil u)
+after-next (w ∷ us) u =
+    ap (λ z. backslash ∷ z) (ap (λ z. w ++ z) (after-next us u) ∙ sym (append_assoc w (after us) (backslash ∷ u)))
 
-    pub put-moved : (o : List ℕ) (pos : ℕ) {o₁ o₂ : List ℕ} → o₁ ≡ laid o pos (date_text d)
-        → o₂ ≡ laid o₁ (pos + date_length) (part s (a + date_length) b) → o₂ ≡ laid o pos (shifted_piece da days (part s a b))
-    put-moved o pos g h =
-        laid-more o pos (date_text d) (part s (a + date_length) b) g refl h
-        ∙ ap (laid o pos) (ap (λ w. date_text d ++ w) (sym rest) ∙ ap (with_date (part s a b)) date-is)
+joined-next : (us : List (List ℕ)) (u : List ℕ) → joined (us ++ u ∷ []) ≡ (joined us ++ mark (length us)) ++ u
+unfolding joined after
+joined-next [] u = append-nil u
+joined-next (w ∷ us) u =
+    ap (λ z. w ++ z) (after-next us u)
+    ∙ sym (append_assoc (w ++ after us) (backslash ∷ []) u ∙ append_assoc w (after us) (backslash ∷ u))
+
+after-short : (k : ℕ) (us : List (List ℕ)) → length (after (take k us)) ≤ length (after us)
+unfolding after
+after-short zero us = omega arith
+after-short (suc k) [] = omega arith
+after-short (suc k) (u ∷ us) = omega (arith, after-short k us, length-append u (after (take k us)), length-append u (after us))
+
+joined-short : (k : ℕ) (us : List (List ℕ)) → length (joined (take k us)) ≤ length (joined us)
+unfolding joined
+joined-short zero us = omega arith
+joined-short (suc k) [] = omega arith
+joined-short (suc k) (u ∷ us) = omega (arith, after-short k us, length-append u (after (take k us)), length-append u (after us))
 
 -- ---- put_shifted
 
--- the text of the pieces from a on
-abbrev ahead : Bool → List ℕ → ℤ → ℕ → ℕ → List ℕ
-ahead da s days stop a = joined (map (shifted_piece da days) (pieces (part s a stop)))
+module _ (da : Bool) (days : ℤ) (v : List ℕ) where
+  abbrev pub front : ℕ → List ℕ
+  front k = joined (take k (map (shifted_piece da days) (date_pieces da v)))
 
-pub record Writing (da : Bool) (s : List ℕ) (from to : ℕ) (days : ℤ) (stop : ℕ) (o₀ : List ℕ) (pos : ℕ) (o : List ℕ) (a p : ℕ) : Type 0 where
-  pub lo : from ≤ a
-  pub hi : a ≤ stop
-  pub upto : stop ≤ to
-  pub in_s : to ≤ length s
-  pub ends : stop ≡ from + dates_end da (part s from to)
-  pub place : p ≡ pos + (a - from)
-  pub text : List ℕ
-  pub size : length text ≡ a - from
-  pub written : o ≡ laid o₀ pos text
-  pub whole : text ++ ahead da s days stop a ≡ ahead da s days stop from
+  front-short : (k : ℕ) → length (front k) ≤ dates_end da v
+  front-short k = omega (arith, joined-short k (map (shifted_piece da days) (date_pieces da v)), length-shifted da days v)
 
-pub write-start : (da : Bool) (s : List ℕ) (from to : ℕ) (days : ℤ) (o : List ℕ) (pos : ℕ) {stop : ℕ} → from ≤ to → to ≤ length s
-    → stop ≡ from + dates_end da (part s from to) → Writing da s from to days stop o pos o from pos
-write-start da s from to days o pos {stop} le in_s e =
-    let b = dates-upto da s from to stop in_s le e in
-    record {
-      lo = omega arith;
-      hi = b.0;
-      upto = b.1;
-      in_s = in_s;
-      ends = e;
-      place = omega arith;
-      text = [];
-      size = omega arith;
-      written = sym (laid-none o pos);
-      whole = refl;
-    }
+  front-next : (k : ℕ) (u : List ℕ) → k < length (date_pieces da v) → u ≡ get_or (date_pieces da v) k u
+      → front (k + 1) ≡ (front k ++ mark k) ++ shifted_piece da days u
+  front-next k u h e =
+      let us : List (List ℕ) = map (shifted_piece da days) (date_pieces da v) in
+      let n : length us ≡ length (date_pieces da v) = length-map (date_pieces da v) (shifted_piece da days) in
+      ap joined (take_more us k [] (omega arith)) ∙ joined-next (take k us) (get_or us k [])
+      ∙ ap₂ (λ j w. (front k ++ mark j) ++ w) (length-take-le k us (omega arith))
+      (get_or-map (shifted_piece da days) (date_pieces da v) k u [] h ∙ ap (shifted_piece da days) (sym e))
 
-module _ {da : Bool} {s : List ℕ} {from to : ℕ} {days : ℤ} {stop : ℕ} {o₀ : List ℕ} {pos : ℕ} {o : List ℕ} {a p b : ℕ}
-    (g : Writing da s from to days stop o₀ pos o a p) (e : b ≡ piece_end s a stop) where
-  pub write-cut : PieceEnd s a stop b
-  write-cut = piece_end-is s a stop g.hi (omega (arith, g.upto, g.in_s)) b e
+  pub record Writing (o₀ : List ℕ) (pos k at : ℕ) (o : List ℕ) : Type 0 where
+    pub place : at ≡ pos + length (front k)
+    pub written : o ≡ laid o₀ pos (front k)
 
-  abbrev piece : List ℕ
-  piece = shifted_piece da days (part s a b)
+  pub write-start : (o : List ℕ) (pos : ℕ) → Writing o pos 0 pos o
+  unfolding joined
+  write-start o pos = record { place = omega arith; written = sym (laid-none o pos) }
 
-  module _ {o₁ : List ℕ} {q : ℕ} (w : (q ≡ p + (b - a)) × (o₁ ≡ laid o p piece)) where
-    pub write-end : q ≡ pos + (b - from)
-    write-end = omega (arith, w.0, g.place, g.lo, write-cut.from)
+  pub record Marked (o₀ : List ℕ) (pos k at : ℕ) (o : List ℕ) : Type 0 where
+    pub place : at ≡ pos + length (front k ++ mark k)
+    pub written : o ≡ laid o₀ pos (front k ++ mark k)
 
-    pub write-next : (n : ℕ) → b < stop → pos + (to - from) < n → q + 1 < n
-    write-next n l h = omega (arith, write-end, g.lo, g.upto, write-cut.from)
+  module _ {o₀ : List ℕ} {pos k at : ℕ} {o : List ℕ} (g : Writing o₀ pos k at o) where
+    pub write-first : k ≡ 0 → {at' : ℕ} {o' : List ℕ} → at' ≡ at → o' ≡ o → Marked o₀ pos k at' o'
+    write-first z e f =
+        let n : front k ++ mark k ≡ front k = ap (λ j. front k ++ mark j) z ∙ append-nil (front k) in
+        record { place = e ∙ g.place ∙ ap (λ w. pos + length w) (sym n); written = f ∙ g.written ∙ ap (laid o₀ pos) (sym n) }
 
-    pub write-size : length o₁ ≡ length o₀
-    write-size = ap length w.1 ∙ length-laid o p piece ∙ ap length g.written ∙ length-laid o₀ pos g.text
+    mark-is : (j : ℕ) → 0 < j → mark j ≡ backslash ∷ []
+    mark-is zero l = absurd (omega arith)
+    mark-is (suc j) l = refl
 
-    size-more : length (g.text ++ piece) ≡ b - from
-    size-more =
-        omega (
-          arith,
-          g.size,
-          g.lo,
-          write-cut.from,
-          length-append g.text piece,
-          length-shifted_piece da days (part s a b),
-          length-part s a b (omega (arith, write-cut.upto, g.upto, g.in_s)),
+    pub write-mark : 0 < k → {at' : ℕ} {o' : List ℕ} → at' ≡ at + 1 → o' ≡ laid o at (backslash ∷ []) → Marked o₀ pos k at' o'
+    write-mark l e f =
+        let m : backslash ∷ [] ≡ mark k = sym (mark-is k l) in
+        record {
+          place = omega (arith, e, g.place, ap length m, length-append (front k) (mark k));
+          written = laid-more o₀ pos (front k) (mark k) g.written g.place (f ∙ ap (laid o at) m);
+        }
+
+    pub write-last : k ≡ length (date_pieces da v) → {q : ℕ} {o' : List ℕ} → (q ≡ at + length (drop (dates_end da v) v)) × (o' ≡ laid o at (drop (dates_end da v) v))
+        → (q ≡ pos + length v) × (o' ≡ laid o₀ pos (shifted_text da days v))
+    unfolding shifted_text
+    write-last z {q} {o'} w =
+        let us : List (List ℕ) = map (shifted_piece da days) (date_pieces da v) in
+        let n : k ≡ length us = z ∙ sym (length-map (date_pieces da v) (shifted_piece da days)) in
+        let e : front k ≡ joined us = ap joined (ap (λ j. take j us) n ∙ take-length us) in (
+          omega (arith, w.0, g.place, ap length e, length-shifted da days v, dates_end-le da v, length-drop (dates_end da v) v),
+          laid-more o₀ pos (front k) (drop (dates_end da v) v) g.written g.place w.1
+              ∙ ap (λ z. laid o₀ pos (z ++ drop (dates_end da v) v)) e,
         )
 
-    written-more : o₁ ≡ laid o₀ pos (g.text ++ piece)
-    written-more = laid-more o₀ pos g.text piece g.written (omega (arith, g.place, g.size)) w.1
+    pub write-room : at + length (drop (dates_end da v) v) ≤ pos + length v
+    write-room = omega (arith, g.place, front-short k, dates_end-le da v, length-drop (dates_end da v) v)
 
-    -- what was to be written where the piece began
-    whole-is : (us : List (List ℕ)) → write-cut.others ≡ us → g.text ++ joined (piece ∷ map (shifted_piece da days) us) ≡ ahead da s days stop from
-    whole-is us f =
-        ap (λ z. g.text ++ joined (map (shifted_piece da days) z)) (sym (write-cut.cut ∙ ap (λ z. part s a b ∷ z) f)) ∙ g.whole
+  module _ {o₀ : List ℕ} {pos k at : ℕ} {o : List ℕ} (g : Marked o₀ pos k at o) {u : List ℕ}
+      (h : k < length (date_pieces da v)) (e : u ≡ get_or (date_pieces da v) k u) where
+    length-next : pos + length (front (k + 1)) ≡ at + length u
+    length-next =
+        omega (
+          arith,
+          g.place,
+          ap length (front-next k u h e),
+          length-append (front k ++ mark k) (shifted_piece da days u),
+          length-shifted_piece da days u,
+        )
 
-    pub write-last : {days' : ℤ} {o₂ : List ℕ} → b ≡ stop → days ≡ days' → o₂ ≡ laid o₁ q (part s stop to)
-        → o₂ ≡ laid o₀ pos (shifted_text da days' (part s from to))
-    unfolding shifted_text
-    write-last at same v =
-        let le : from ≤ to = omega (arith, g.lo, g.hi, g.upto) in
-        laid-more o₀ pos (g.text ++ piece) (part s stop to) written-more (omega (arith, size-more, write-end)) v
-        ∙ ap (laid o₀ pos)
-        (ap₂ ◌++◌ (ap (λ z. g.text ++ z) (sym (joined-one piece)) ∙ whole-is [] (write-cut.last at)
-        ∙ ap (λ v. joined (map (shifted_piece da days) (pieces v))) (sym (dates-take da s from to stop g.in_s le g.ends)))
-        (sym (dates-drop da s from to stop g.in_s le g.ends)))
-        ∙ ap (λ z. laid o₀ pos (shifted_text da z (part s from to))) same
+    pub write-place : at + length u ≤ pos + length v
+    write-place = omega (arith, length-next, front-short (k + 1), dates_end-le da v)
 
-    pub write-on : {o₂ : List ℕ} → b < stop → o₂ ≡ laid o₁ q (backslash ∷ []) → Writing da s from to days stop o₀ pos o₂ (b + 1) (q + 1)
-    write-on l v = record {
-      lo = omega (arith, g.lo, write-cut.from);
-      hi = omega arith;
-      upto = g.upto;
-      in_s = g.in_s;
-      ends = g.ends;
-      place = omega (arith, write-end, g.lo, write-cut.from);
-      text = (g.text ++ piece) ++ backslash ∷ [];
-      size = omega (arith, size-more, g.lo, write-cut.from, length-append (g.text ++ piece) (backslash ∷ []));
-      written = laid-more o₀ pos (g.text ++ piece) (backslash ∷ []) written-more (omega (arith, size-more, write-end)) v;
-      whole =
-          append_assoc (g.text ++ piece) (backslash ∷ []) _ ∙ append_assoc g.text piece _
-          ∙ ap (λ z. g.text ++ z) (sym (next piece (pieces (part s (b + 1) stop)) (pieces-some (part s (b + 1) stop))))
-          ∙ whole-is (pieces (part s (b + 1) stop)) (write-cut.more l);
+    pub write-on : {q : ℕ} {o' : List ℕ} → (q ≡ at + length u) × (o' ≡ laid o at (shifted_piece da days u)) → Writing o₀ pos (k + 1) q o'
+    write-on w = record {
+      place = w.0 ∙ sym length-next;
+      written =
+          laid-more o₀ pos (front k ++ mark k) (shifted_piece da days u) g.written g.place w.1
+          ∙ ap (laid o₀ pos) (sym (front-next k u h e));
     }
-      where
-        next : (u : List ℕ) (us : List (List ℕ)) → 0 < length us
-            → joined (u ∷ map (shifted_piece da days) us) ≡ u ++ backslash ∷ joined (map (shifted_piece da days) us)
-        next u [] l = absurd (omega arith)
-        next u (w ∷ us) l = joined-more u (shifted_piece da days w) (map (shifted_piece da days) us)

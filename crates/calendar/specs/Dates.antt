@@ -10,15 +10,12 @@
 --     only_real d              d, or nothing where it is not real
 --     later n z                z days after the day with the number n; 0, which no day has, where there are not so many before it
 --     moved d z                the date z days after d, or nothing: d is not real, or the date that it goes to is not
---     date_in r, refusal_in r  what each answer of `Date::shifted` says: the moved date, or document 01's refusal 12
-use Rattle.std.specs.Prelude.{Bool, true, false, ◌&&◌, List, [], ◌∷◌, ℕ, ◌+◌, ◌-◌, ◌%◌, eqb, leb, ℤ, pos, negsuc, get_or}
-use Rattle.std.proofs.Math.Option.{Option, none, some}
+--     refusal_in r             document 01's refusal, by number, in an answer of `Date::shifted`: 12 where it is none, or 0
+use Rattle.std.specs.Prelude.{Bool, true, false, ◌&&◌, List, [], ◌∷◌, ℕ, ◌+◌, ◌-◌, ◌%◌, eqb, leb, ℤ, pos, negsuc, get_or, Option, None, Some}
 use Rattle.refusals.specs.Refusals.{bad_dates}
 use Rattle.basis.specs.Choice.{pick, then}
 use Rattle.calendar.specs.Spans.{before, span_at}
 use Rattle.calendar.specs.declared.Date.{Date}
-use Rattle.calendar.specs.declared.Moved.{Moved}
-use Rattle.calendar.specs.declared.Moved.TheVariants.{To, Refused}
 
 -- Document 01, dates, 2nd sentence: the years 0001 to 9999
 abbrev pub first_year : ℕ
@@ -55,7 +52,7 @@ unfoldable pub real : Date → Bool
 real d = leb first_year d.year && leb d.year last_year && leb 1 d.day && leb d.day (month_len d.year d.month)
 
 abbrev pub only_real : Date → Option Date
-only_real d = pick (real d) (some d) none
+only_real d = pick (real d) (Some d) None
 
 abbrev pub later : ℕ → ℤ → ℕ
 later n (pos k) = n + k
@@ -65,10 +62,6 @@ later n (negsuc k) = n - (k + 1)
 abbrev pub moved : Date → ℤ → Option Date
 moved d z = then (only_real d) (λ e. only_real (date_of (later (day_number e) z)))
 
-abbrev pub date_in : Moved → Option Date
-date_in (To d) = some d
-date_in Refused = none
-
-abbrev pub refusal_in : Moved → ℕ
-refusal_in (To d) = 0
-refusal_in Refused = bad_dates
+abbrev pub refusal_in : Option Date → ℕ
+refusal_in (Some d) = 0
+refusal_in None = bad_dates

@@ -8,22 +8,18 @@
 --     moved_date da days u     the date of the piece u, moved, or nothing: u is malformed, or its date can't be moved
 --     with_date u d            the piece u with the date d for its own; u itself where there is none
 --     shifted_piece da days u the piece u with its date moved; u itself where it has none that can be moved
---     number_in r              what each answer of the function `two_digits` says
-use Rattle.std.specs.Prelude.{Bool, ◌&&◌, List, [], ◌∷◌, ◌++◌, ℕ, ◌+◌, ◌-◌, ◌*◌, ◌/◌, ◌%◌, eqb, leb, ℤ, length, drop, get_or}
-use Rattle.std.proofs.Math.Option.{Option, none, some}
+use Rattle.std.specs.Prelude.{Bool, ◌&&◌, List, [], ◌∷◌, ◌++◌, ℕ, ◌+◌, ◌-◌, ◌*◌, ◌/◌, ◌%◌, eqb, leb, ℤ, length, drop, get_or, Option, None, Some}
 use Rattle.basis.specs.Choice.{pick, fork, then}
 use Rattle.basis.specs.Text.{digit0, is_digit}
 use Rattle.calendar.specs.Dates.{moved}
 use Rattle.calendar.specs.declared.Date.{Date}
-use Rattle.calendar.specs.declared.Two.{Two}
-use Rattle.calendar.specs.declared.Two.TheVariants.{Number, NoDigits}
 
 -- Document 01, dates, 3rd sentence: eight digits
 abbrev pub date_length : ℕ
 date_length = 8
 
 unfoldable pub two_digits : ℕ → ℕ → Option ℕ
-two_digits x y = pick (is_digit x && is_digit y) (some (10 * (x - digit0) + (y - digit0))) none
+two_digits x y = pick (is_digit x && is_digit y) (Some (10 * (x - digit0) + (y - digit0))) None
 
 -- The same sentence, read: century, year, month and day, two digits each
 abbrev pub two_at : List ℕ → ℕ → ℕ → Option ℕ
@@ -35,7 +31,7 @@ date_at s a =
     then (two_at s (a + 2) (a + 3)) (λ y.
     then (two_at s (a + 4) (a + 5)) (λ m.
     then (two_at s (a + 6) (a + 7)) (λ d.
-    some (record { year = 100 * c + y; month = m; day = d })))))
+    Some (record { year = 100 * c + y; month = m; day = d })))))
 
 -- The same sentence, written
 abbrev pub two_text : ℕ → List ℕ
@@ -50,16 +46,12 @@ right_length da n = pick da (eqb n date_length) (leb date_length n)
 
 -- Document 01, No. 12: malformed, no real day, or out of the years
 unfoldable pub moved_date : Bool → ℤ → List ℕ → Option Date
-moved_date da days u = fork (right_length da (length u)) (λ _. then (date_at u 0) (λ d. moved d days)) (λ _. none)
+moved_date da days u = fork (right_length da (length u)) (λ _. then (date_at u 0) (λ d. moved d days)) (λ _. None)
 
 -- Document 01, dates, 3rd sentence: what follows the date of a DT value is copied
 abbrev pub with_date : List ℕ → Option Date → List ℕ
-with_date u none = u
-with_date u (some d) = date_text d ++ drop date_length u
+with_date u None = u
+with_date u (Some d) = date_text d ++ drop date_length u
 
 abbrev pub shifted_piece : Bool → ℤ → List ℕ → List ℕ
 shifted_piece da days u = with_date u (moved_date da days u)
-
-abbrev pub number_in : Two → Option ℕ
-number_in (Number n) = some n
-number_in NoDigits = none

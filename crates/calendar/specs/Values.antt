@@ -7,8 +7,7 @@
 --     shifted_text da days v     the value v with each of its dates moved; a piece that has none that can be moved stays as it is
 --     all_move da days us        each of the pieces us has a date that can be moved
 --     shifted_value da days v    the value v, shifted, or nothing where it is refused with 12
-use Rattle.std.specs.Prelude.{Bool, true, false, ◌&&◌, ◌||◌, List, [], ◌∷◌, ◌++◌, map, ℕ, ◌-◌, ◌%◌, eqb, ℤ, length, take, drop, get_or}
-use Rattle.std.proofs.Math.Option.{Option, none, some}
+use Rattle.std.specs.Prelude.{Bool, true, false, ◌&&◌, ◌||◌, List, [], ◌∷◌, ◌++◌, map, ℕ, ◌-◌, ◌%◌, eqb, ℤ, length, take, drop, get_or, Option, None, Some}
 use Rattle.basis.specs.Choice.{pick, fork, is_some}
 use Rattle.basis.specs.Pieces.{pieces, joined}
 use Rattle.calendar.specs.Text.{moved_date, shifted_piece}
@@ -40,4 +39,4 @@ is_empty (x ∷ v) = false
 
 -- Document 01, No. 12, and dates, last sentence: an empty value stays empty (reading D3)
 unfoldable pub shifted_value : Bool → ℤ → List ℕ → Option (List ℕ)
-shifted_value da days v = fork (is_empty v || all_move da days (date_pieces da v)) (λ _. some (shifted_text da days v)) (λ _. none)
+shifted_value da days v = fork (is_empty v || all_move da days (date_pieces da v)) (λ _. Some (shifted_text da days v)) (λ _. None)

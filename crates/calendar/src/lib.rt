@@ -1,14 +1,16 @@
 // A date by value, moved by a signed number of days, and the values of DA and DT elements, whose dates are moved so.
 #![tactic(auto)]
 
-ghost use Rattle.std.specs.Prelude.{◌≡◌, ◌+◌, ◌-◌, ◌≤◌, ◌<◌, ◌^◌, length};
-ghost use Rattle.basis.specs.Bytes.{part};
-ghost use Rattle.basis.specs.Choice.{then, is_none};
+ghost use Rattle.std.specs.Prelude.{◌≡◌, ◌+◌, ◌≤◌, ◌<◌, ◌^◌, ◌%◌, true, length, IfSome};
+ghost use Rattle.basis.specs.Choice.{is_none};
+ghost use Rattle.basis.specs.Text.{digit0};
 ghost use Rattle.buffer.specs.Buffer.{laid};
 ghost use Rattle.calendar.specs.Spans.{before, InSpan};
-ghost use Rattle.calendar.specs.Dates.{first_year, last_year, leap, year_len, month_len, date_of, real, later, moved, date_in};
-ghost use Rattle.calendar.specs.Text.{date_length, two_digits, date_at, date_text, right_length, moved_date, shifted_piece, number_in};
+ghost use Rattle.calendar.specs.Dates.{first_year, last_year, leap, year_len, month_len, day_number, date_of, real, later, moved};
+ghost use Rattle.calendar.specs.Text.{date_length, two_digits, date_at, date_text, right_length, moved_date, shifted_piece};
 ghost use Rattle.calendar.specs.Values.{dates_end, shifted_text, shifted_value};
+
+use basis::BACKSLASH;
 
 // The years that a date may have.
 const FIRST_YEAR: u32 = 1;
@@ -18,57 +20,33 @@ const LAST_YEAR: u32 = 9999;
 // How many characters a date has.
 const DATE_LENGTH: usize = 8;
 
-#[derive(Clone, Copy)]
+#[derive(Clone, Copy, Debug, PartialEq, Eq)]
 pub struct Date {
     pub year: u32,
     pub month: u32,
     pub day: u32,
 }
 
-// The moved date, or refusal 12.
-#[derive(Clone, Copy)]
-pub enum Moved {
-    To(Date),
-    Refused,
-}
-
-// The number that two characters spell, where they are digits.
-#[derive(Clone, Copy)]
-enum Two {
-    Number(u32),
-    NoDigits,
-}
-
 // Each fourth year, but of the full hundreds only each fourth.
+#[tactic(auto, unfolding(crate::specs::Dates::leap))]
 fn is_leap(y: u32) -> bool
     ensures { result ≡ leap y }
 {
-    if y % 400 == 0 {
-        return true;
-    }
-    if y % 100 == 0 {
-        return false;
-    }
-    y % 4 == 0
+    y % 400 == 0 || y % 100 != 0 && y % 4 == 0
 }
 
-// The months but February have 31 days and 30 by turns, and after July the turns begin again.
+// The days of the month m of the year y: none where there is no such month.
+#[tactic(auto, unfolding(crate::specs::Dates::month_len))]
 fn month_len(y: u32, m: u32) -> u32
     ensures { result ≡ month_len y m }
 {
-    if m < 1 {
-        return 0;
+    match m {
+        2 if is_leap(y) => 29,
+        2 => 28,
+        4 | 6 | 9 | 11 => 30,
+        1..=12 => 31,
+        _ => 0,
     }
-    if 12 < m {
-        return 0;
-    }
-    if m == 2 {
-        if is_leap(y) {
-            return 29;
-        }
-        return 28;
-    }
-    30 + (m + m / 8) % 2
 }
 
 // The days before the year y: the leap years among the years 0 to y - 1 are the fourth ones without the hundreds, and the four hundreds.
@@ -87,29 +65,11 @@ fn before_month(y: u32, m: u32) -> u32
     if m < 3 {
         return 31 * (m - 1);
     }
-    if is_leap(y) {
-        return (153 * m - 162) / 5 + 1;
-    }
-    (153 * m - 162) / 5
-}
-
-// Whether d is a day of the calendar, in the years.
-fn is_real(d: Date) -> bool
-    ensures { result ≡ real d }
-{
-    if d.year < FIRST_YEAR {
-        return false;
-    }
-    if LAST_YEAR < d.year {
-        return false;
-    }
-    if d.day < 1 {
-        return false;
-    }
-    d.day <= month_len(d.year, d.month)
+    (153 * m - 162) / 5 + u32::from(is_leap(y))
 }
 
 // The year that has the day n: as if each fourth year were a leap year, and then on from there, mostly by no year and at most by one.
+// Two loops, here and in `month_of`: a search from a guess is no plainer as an iterator, nor as one function that takes guess and days.
 fn year_of(n: u32) -> u32
     requires { (before year_len first_year < n) × (n ≤ before year_len (last_year + 1)) }
     ensures { InSpan year_len n result }
@@ -148,144 +108,129 @@ fn date_of(n: u32) -> Date
     }
 }
 
-// The day `days` days after the day n, or 0 where there are not so many before it.
+// The day `days` days after the day n, or 0, which is no day in the years, where there are not so many before it: so `Dates.later` has it.
 fn later_day(n: u32, days: i32) -> u32
     requires { n < 2 ^ 31 }
     ensures { result ≡ later n days }
 {
-    if days < 0 {
-        let k = (-1 - days) as u32;
-        if k < n {
-            return n - (k + 1);
-        }
-        return 0;
-    }
-    n + days as u32
+    n.saturating_add_signed(days)
 }
 
 impl Date {
-    // The date `days` days later, or a refusal where this is no real day or where that leaves the years.
-    pub fn shifted(self, days: i32) -> Moved
-        ensures { date_in result ≡ moved self days }
+    // Whether this is a day of the calendar, in the years.
+    #[tactic(auto, unfolding(crate::specs::Dates::real))]
+    fn is_real(self) -> bool
+        ensures { result ≡ real self }
     {
-        if is_real(self) {
-            let n = before_year(self.year) + (before_month(self.year, self.month) + self.day);
-            let k = later_day(n, days);
-            if before_year(FIRST_YEAR) < k {
-                if k <= before_year(LAST_YEAR + 1) {
-                    return Moved::To(date_of(k));
-                }
-            }
+        (FIRST_YEAR..=LAST_YEAR).contains(&self.year)
+            && (1..=month_len(self.year, self.month)).contains(&self.day)
+    }
+
+    // This day, which is real, as a number: the days up to it from the year 0 on.
+    fn number(self) -> u32
+        requires { real self ≡ true }
+        ensures { result ≡ day_number self }
+    {
+        before_year(self.year) + before_month(self.year, self.month) + self.day
+    }
+
+    // The date `days` days later, or none where this is no real day or where that leaves the years.
+    pub fn shifted(self, days: i32) -> Option<Date>
+        ensures { result ≡ moved self days }
+    {
+        if !self.is_real() {
+            return None;
         }
-        Moved::Refused
+        let n = later_day(self.number(), days);
+        if n <= before_year(FIRST_YEAR) || before_year(LAST_YEAR + 1) < n {
+            return None;
+        }
+        Some(date_of(n))
     }
 }
 
 // The number that the characters x and y spell.
-fn two_digits(x: u8, y: u8) -> Two
-    ensures { number_in result ≡ two_digits x y }
+#[tactic(auto, unfolding(crate::specs::Text::two_digits))]
+fn two_digits(x: u8, y: u8) -> Option<u32>
+    ensures { result ≡ two_digits x y }
 {
-    if x < b'0' {
-        return Two::NoDigits;
+    if x.is_ascii_digit() && y.is_ascii_digit() {
+        Some(10 * u32::from(x - b'0') + u32::from(y - b'0'))
+    } else {
+        None
     }
-    if b'9' < x {
-        return Two::NoDigits;
-    }
-    if y < b'0' {
-        return Two::NoDigits;
-    }
-    if b'9' < y {
-        return Two::NoDigits;
-    }
-    Two::Number(10 * (x - b'0') as u32 + (y - b'0') as u32)
 }
 
-// The date that stands at `a`, moved.
-fn moved_at(s: &[u8], a: usize, days: i32) -> Moved
-    requires { a + date_length ≤ length s.now }
-    ensures { date_in result ≡ then (date_at s.now a) (λ d. moved d days) }
+// The date that the first eight characters of `text` spell, real or not.
+#[tactic(auto, unfolding(crate::specs::Text::date_at))]
+fn date_at(text: &[u8]) -> Option<Date>
+    requires { date_length ≤ length text.now }
+    ensures { result ≡ date_at text.now 0 }
 {
-    let Two::Number(c) = two_digits(s[a], s[a + 1]) else {
-        return Moved::Refused;
-    };
-    let Two::Number(y) = two_digits(s[a + 2], s[a + 3]) else {
-        return Moved::Refused;
-    };
-    let Two::Number(m) = two_digits(s[a + 4], s[a + 5]) else {
-        return Moved::Refused;
-    };
-    let Two::Number(d) = two_digits(s[a + 6], s[a + 7]) else {
-        return Moved::Refused;
-    };
-    let date = Date {
-        year: 100 * c + y,
-        month: m,
-        day: d,
-    };
-    date.shifted(days)
+    let century = two_digits(text[0], text[1])?;
+    let year = two_digits(text[2], text[3])?;
+    let month = two_digits(text[4], text[5])?;
+    let day = two_digits(text[6], text[7])?;
+    Some(Date {
+        year: 100 * century + year,
+        month,
+        day,
+    })
 }
 
 // A date is the whole of a piece in a DA value, and its front in a DT value.
+// `da` stays a flag, here and below: `Text.right_length`, `Values.shifted_value` and the promises take one.
 fn right_length(da: bool, n: usize) -> bool
     ensures { result ≡ right_length da n }
 {
     if da {
-        return n == DATE_LENGTH;
+        n == DATE_LENGTH
+    } else {
+        DATE_LENGTH <= n
     }
-    DATE_LENGTH <= n
 }
 
-// The date of the piece from `a` up to `b`, moved.
-fn moved_date(da: bool, s: &[u8], a: usize, b: usize, days: i32) -> Moved
-    requires { (a ≤ b) × (b ≤ length s.now) }
-    ensures { date_in result ≡ moved_date da days (part s.now a b) }
+// The date of a piece, moved.
+#[tactic(auto, unfolding(crate::specs::Text::moved_date))]
+fn moved_date(da: bool, piece: &[u8], days: i32) -> Option<Date>
+    ensures date { result ≡ moved_date da days piece.now }
+    ensures room { IfSome result (λ _. date_length ≤ length piece.now) }
 {
-    if right_length(da, b - a) {
-        return moved_at(s, a, days);
+    if !right_length(da, piece.len()) {
+        return None;
     }
-    Moved::Refused
+    date_at(piece)?.shifted(days)
 }
 
 // Where the dates of a value end: before the space that pads a DA value, or at its end.
-fn dates_end(da: bool, s: &[u8], from: usize, to: usize) -> usize
-    requires { (from ≤ to) × (to ≤ length s.now) }
-    ensures { result ≡ from + dates_end da (part s.now from to) }
+#[tactic(auto, unfolding(crate::specs::Values::dates_end, crate::specs::Values::padded))]
+fn dates_end(da: bool, value: &[u8]) -> usize
+    ensures end { result ≡ dates_end da value.now }
+    ensures within { result ≤ length value.now }
 {
-    if da {
-        if from < to {
-            if (to - from) % 2 == 0 {
-                if s[to - 1] == b' ' {
-                    return to - 1;
-                }
-            }
-        }
+    if da && value.len() % 2 == 0 && value.ends_with(b" ") {
+        value.len() - 1
+    } else {
+        value.len()
     }
-    to
 }
 
-// Whether the DA or DT value from `from` up to `to` is refused with 12.
-pub fn date_fault(da: bool, s: &[u8], from: usize, to: usize, days: i32) -> bool
-    requires { (from ≤ to) × (to ≤ length s.now) }
-    ensures { result ≡ is_none (shifted_value da days (part s.now from to)) }
+// Whether a DA or DT value is refused with 12.
+pub fn date_fault(da: bool, value: &[u8], days: i32) -> bool
+    ensures { result ≡ is_none (shifted_value da days value.now) }
 {
-    if from == to {
-        return false;
-    }
-    let stop = dates_end(da, s, from, to);
-    let mut a = from;
-    loop {
-        let b = basis::piece_end(s, a, stop);
-        let m = moved_date(da, s, a, b, days);
-        match m {
-            Moved::Refused => return true,
-            Moved::To(_) => {
-                if b == stop {
-                    return false;
-                }
-                a = b + 1;
-            }
-        }
-    }
+    let dates = &value[..dates_end(da, value)];
+    !value.is_empty()
+        && dates
+            .split(|b| *b == BACKSLASH)
+            .any(|piece| moved_date(da, piece, days).is_none())
+}
+
+// The last digit of n.
+fn digit(n: u32) -> u8
+    ensures { result ≡ digit0 + n % 10 }
+{
+    b'0' + (n % 10) as u8
 }
 
 // The date `d` in eight digits.
@@ -293,63 +238,45 @@ fn put_date(d: Date, out: &mut [u8], pos: usize)
     requires { pos + date_length < 2 ^ 64 }
     ensures { out.new ≡ laid out.old pos (date_text d) }
 {
-    let c = d.year / 100;
-    let y = d.year % 100;
-    let m = d.month;
-    let k = d.day;
     let text = [
-        b'0' + (c / 10 % 10) as u8,
-        b'0' + (c % 10) as u8,
-        b'0' + (y / 10 % 10) as u8,
-        b'0' + (y % 10) as u8,
-        b'0' + (m / 10 % 10) as u8,
-        b'0' + (m % 10) as u8,
-        b'0' + (k / 10 % 10) as u8,
-        b'0' + (k % 10) as u8,
+        digit(d.year / 1000),
+        digit(d.year / 100),
+        digit(d.year / 10),
+        digit(d.year),
+        digit(d.month / 10),
+        digit(d.month),
+        digit(d.day / 10),
+        digit(d.day),
     ];
-    buffer::copy_block(&text, 0, DATE_LENGTH, out, pos);
+    buffer::copy_block(&text, out, pos);
 }
 
-// The piece from `a` up to `b` with its date moved, at `pos`; the place past it. A date that can't be moved stays: a value that has one is
-// refused with 12 before anything is written.
-fn put_piece(da: bool, s: &[u8], a: usize, b: usize, days: i32, out: &mut [u8], pos: usize) -> usize
-    requires { (a ≤ b) × (b ≤ length s.now) × (pos + (b - a) < 2 ^ 64) }
-    ensures { (result ≡ pos + (b - a)) × (out.new ≡ laid out.old pos (shifted_piece da days (part s.now a b))) }
+// A piece with its date moved, at `pos`; the place past it. A date that can't be moved stays: a value that has one is refused with 12
+// before anything is written.
+fn put_piece(da: bool, piece: &[u8], days: i32, out: &mut [u8], pos: usize) -> usize
+    requires { pos + length piece.now < 2 ^ 64 }
+    ensures { (result ≡ pos + length piece.now) × (out.new ≡ laid out.old pos (shifted_piece da days piece.now)) }
 {
-    let m = moved_date(da, s, a, b, days);
-    match m {
-        Moved::Refused => buffer::copy_block(s, a, b, out, pos),
-        Moved::To(d) => {
-            put_date(d, out, pos);
-            buffer::copy_block(s, a + DATE_LENGTH, b, out, pos + DATE_LENGTH)
-        }
-    }
+    let Some(date) = moved_date(da, piece, days) else {
+        return buffer::copy_block(piece, out, pos);
+    };
+    put_date(date, out, pos);
+    buffer::copy_block(&piece[DATE_LENGTH..], out, pos + DATE_LENGTH)
 }
 
-// The DA or DT value from `from` up to `to` with its dates moved, at `pos`, as far as there is room; the place past all of it.
-pub fn put_shifted(
-    da: bool,
-    s: &[u8],
-    from: usize,
-    to: usize,
-    days: i32,
-    out: &mut [u8],
-    pos: usize,
-) -> usize
-    requires { (from ≤ to) × (to ≤ length s.now) × (pos + (to - from) < 2 ^ 64) }
-    ensures { (result ≡ pos + (to - from)) × (out.new ≡ laid out.old pos (shifted_text da days (part s.now from to))) }
+// A DA or DT value with its dates moved, at `pos`, as far as there is room; the place past all of it.
+pub fn put_shifted(da: bool, value: &[u8], days: i32, out: &mut [u8], pos: usize) -> usize
+    requires { pos + length value.now < 2 ^ 64 }
+    ensures { (result ≡ pos + length value.now) × (out.new ≡ laid out.old pos (shifted_text da days value.now)) }
 {
-    let stop = dates_end(da, s, from, to);
-    let mut a = from;
-    let mut p = pos;
-    loop {
-        let b = basis::piece_end(s, a, stop);
-        let e = put_piece(da, s, a, b, days, out, p);
-        if b == stop {
-            return buffer::copy_block(s, stop, to, out, e);
+    let (dates, pad) = value.split_at(dates_end(da, value));
+    let mut at = pos;
+    for (i, piece) in dates.split(|b| *b == BACKSLASH).enumerate() {
+        if i > 0 {
+            buffer::put(out, at, BACKSLASH);
+            at += 1;
         }
-        buffer::put(out, e, basis::BACKSLASH);
-        a = b + 1;
-        p = e + 1;
+        at = put_piece(da, piece, days, out, at);
     }
+    buffer::copy_block(pad, out, at)
 }

@@ -14,8 +14,8 @@ fn main(rt: HostRuntime) -> io::Result<()> {
     samples::dates(&rt)?;
     samples::roots(&rt)?;
     samples::groups(&rt)?;
-    built::deep(&rt, b"eight items deep", 8)?;
-    built::deep(&rt, b"nine items deep", 9)?;
-    built::many(&rt, b"1,000 UIDs", 1000)?;
-    built::many(&rt, b"1,001 UIDs", 1001)
+    built::deep(&rt, "eight items deep", 8)?;
+    built::deep(&rt, "nine items deep", 9)?;
+    built::many(&rt, "1,000 UIDs", 1000)?;
+    built::many(&rt, "1,001 UIDs", 1001)
 }

@@ -1,113 +1,79 @@
 // One run, and what it prints.
-use station::HandedBack;
+use refusals::Fault;
 use std::io;
+use write_state::Progress;
 
-// The output's room, and the most of its bytes that are printed.
+// The most room that an output has, and the most of its bytes that are printed.
 pub const ROOM: usize = 8192;
 
 const SHOWN: usize = 300;
 
-pub fn text(rt: &impl Print, s: &[u8]) -> io::Result<()> {
-    rt.write_all(s)
+// What a run is given beside its data set. Its site list is empty, and so is its ledger, of two slots.
+#[derive(Clone, Copy)]
+pub struct Given<'a> {
+    pub options: u64,
+    pub shift: i64,
+    pub root: &'a [u8],
+    pub study: &'a [u8],
+    pub room: usize,
 }
 
-fn number(rt: &impl Print, n: usize) -> io::Result<()> {
-    print!(rt; "{n}")
-}
-
-// A number, and what comes after it.
-fn told(rt: &impl Print, n: usize, next: &[u8]) -> io::Result<()> {
-    number(rt, n)?;
-    text(rt, next)
-}
-
-fn digit(n: u8) -> u8 {
-    if n % 16 < 10 {
-        return b'0' + n % 16;
-    }
-    b'A' - 10 + n % 16
-}
-
-fn hex(rt: &impl Print, b: u8) -> io::Result<()> {
-    let digits = [digit(b / 16), digit(b), b' '];
-    text(rt, &digits)
-}
-
-// Of the bytes that were lent as the room: those up to a place, as far as they are printed, and whether zeros follow.
-fn bytes(rt: &impl Print, out: &[u8; ROOM], room: usize, to: usize) -> io::Result<()> {
-    if ROOM < room {
-        return Ok(());
-    }
-    let mut i = 0;
-    let mut zeros = true;
-    while i < room {
-        if i < to {
-            if i < SHOWN {
-                hex(rt, out[i])?;
-            }
-        } else {
-            if out[i] != 0 {
-                zeros = false;
-            }
-        }
-        i += 1;
-    }
-    if zeros {
-        text(rt, b"and zeros\n")
-    } else {
-        text(rt, b"and not zeros\n")
-    }
-}
+// No option, an empty study list, and room for a short output.
+pub const PLAIN: Given<'static> = Given {
+    options: 0,
+    shift: 0,
+    root: b"1.9",
+    study: b"",
+    room: 300,
+};
 
 // The report; the length written.
-fn outcome(rt: &impl Print, r: HandedBack) -> io::Result<usize> {
-    match r {
-        HandedBack::Refused(n, o) => {
-            told(rt, n as usize, b" at ")?;
-            told(rt, o, b"\n")?;
+fn outcome(rt: &impl Print, outcome: Result<Progress, Fault>) -> io::Result<usize> {
+    match outcome {
+        Err(fault) => {
+            println!(rt; "{} at {}", fault.refusal.number(), fault.offset)?;
             Ok(0)
         }
-        HandedBack::Done(t) => {
-            told(rt, t.pos, b" bytes, in use ")?;
-            told(rt, t.used, b", kept ")?;
-            told(rt, t.kept, b", replaced ")?;
-            told(rt, t.replaced, b", renamed ")?;
-            told(rt, t.renamed, b", removed ")?;
-            told(rt, t.removed, b"\n")?;
+        Ok(t) => {
+            println!(rt;
+                "{} bytes, in use {}, kept {}, replaced {}, renamed {}, removed {}",
+                t.pos, t.used, t.kept, t.replaced, t.renamed, t.removed
+            )?;
             Ok(t.pos)
         }
     }
 }
 
-// A run with an empty ledger of two slots and no site list, on an output that is not zero beforehand.
-pub fn run(
-    rt: &impl Print,
-    name: &[u8],
-    lent: &[u8],
-    options: u64,
-    shift: i64,
-    root: &[u8],
-    study: &[u8],
-    room: usize,
-) -> io::Result<()> {
-    if ROOM < room {
-        return Ok(());
+// The bytes lent as the room: those up to a place, as far as they are printed, and whether zeros follow.
+fn bytes(rt: &impl Print, out: &[u8], to: usize) -> io::Result<()> {
+    let (written, rest) = out.split_at(to.min(out.len()));
+    for byte in written.iter().take(SHOWN) {
+        print!(rt; "{byte:02X} ")?;
     }
+    if rest.iter().all(|byte| *byte == 0) {
+        println!(rt; "and zeros")
+    } else {
+        println!(rt; "and not zeros")
+    }
+}
+
+// A run, on an output that is not zero beforehand.
+pub fn run(rt: &impl Print, name: &str, lent: &[u8], given: Given) -> io::Result<()> {
     let mut ledger = [0u8; 128];
-    let mut out = [85u8; ROOM];
-    let r = station::deidentify(
+    let mut room = [85u8; ROOM];
+    let out = &mut room[..given.room.min(ROOM)];
+    let handed = station::deidentify(
         lent,
-        options,
-        shift,
-        root,
-        study,
-        &study[0..0],
+        given.options,
+        given.shift,
+        given.root,
+        given.study,
+        b"",
         &mut ledger,
         0,
-        &mut out[0..room],
+        out,
     );
-    text(rt, name)?;
-    text(rt, b": ")?;
-    let to = outcome(rt, r)?;
-    bytes(rt, &out, room, to)
+    print!(rt; "{name}: ")?;
+    let to = outcome(rt, handed)?;
+    bytes(rt, out, to)
 }

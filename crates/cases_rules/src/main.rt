@@ -3,7 +3,6 @@
 // the options from document 001, the table's letters from the page of document 002, all else from document 01 and the readings.
 #![tactic(auto)]
 
-mod cases;
 mod choices;
 mod date_values;
 mod dates;
@@ -27,7 +26,6 @@ fn main(rt: HostRuntime) -> io::Result<()> {
     entries::all(&rt)?;
     lookups::all(&rt)?;
     choices::all(&rt)?;
-    settings::numbers(&rt)?;
-    settings::shifts(&rt)?;
+    settings::all(&rt)?;
     rows::all(&rt)
 }

@@ -1,205 +1,141 @@
 // The action of tags, by the rows that were read off the page of document 002, and by the rules before them.
-ghost use Rattle.std.specs.Prelude.{◌≡◌, ◌+◌, ◌<◌, length};
+ghost use Rattle.std.specs.Prelude.{◌≡◌};
 ghost use Rattle.table.specs.Rows.{table};
 
-use crate::cases::Kind;
-use crate::{cases, report};
 use std::io;
 use table::Action;
 
+// By name, as the page has them, and at least one from each sheet of it; also the first and the last row by tag, and the three tags that
+// are printed twice (A16).
+const ROWS: [(u64, &str); 53] = [
+    (0x0008_002A, "Acquisition DateTime"),
+    (0x0000_1000, "Affected SOP Instance UID"),
+    (0x0010_2110, "Allergies"),
+    (0x300C_0127, "Beam Hold Transition DateTime"),
+    (0x0018_1203, "Calibration DateTime"),
+    (0x0012_0060, "Clinical Trial Coordinating Center Name"),
+    (0x0012_0071, "Clinical Trial Series ID"),
+    (0x0012_0030, "Clinical Trial Site ID"),
+    (0x0008_0023, "Content Date"),
+    (0xFFFC_FFFC, "Data Set Trailing Padding"),
+    (0x0018_700C, "Date of Last Detector Calibration"),
+    (0x2100_0140, "Destination AE"),
+    (0x0018_1002, "Device UID"),
+    (0x0400_0100, "Digital Signature UID"),
+    (0x300A_0013, "Dose Reference UID"),
+    (0x0010_2160, "Ethnic Group"),
+    (0x0018_9623, "Functional Sync Pulse"),
+    (0x0016_0070, "GPS Version ID"),
+    (0x0008_0081, "Institution Address"),
+    (0x0008_0082, "Institution Code Sequence"),
+    (0x4008_010B, "Interpretation Text"),
+    (0x2200_0002, "Label Text"),
+    (0x0018_100B, "Manufacturer's Device Class UID"),
+    (0x0008_1000, "Network ID"),
+    (0x0008_1072, "Operator Identification Sequence"),
+    (0x0010_0030, "Patient's Birth Date"),
+    (0x0010_2203, "Patient's Sex Neutered"),
+    (0x0038_0500, "Patient State"),
+    (0x0040_0241, "Performed Station AE Title"),
+    (0x0040_A123, "Person Name"),
+    (0x0040_0012, "Pre-Medication"),
+    (0x0018_1030, "Protocol Name"),
+    (0x0074_1234, "Receiving AE"),
+    (0x0008_1140, "Referenced Image Sequence"),
+    (0x0008_1120, "Referenced Patient Sequence"),
+    (0x0008_1111, "Referenced Performed Procedure Step Sequence"),
+    (0x0008_1110, "Referenced Study Sequence"),
+    (0x3006_00C2, "Related Frame of Reference UID"),
+    (0x300E_0005, "Review Time"),
+    (0x300A_0006, "RT Plan Date"),
+    (0x0040_0011, "Scheduled Procedure Step Location"),
+    (0x0040_0001, "Scheduled Station AE Title"),
+    (0x0032_1021, "Scheduled Study Location AE Title"),
+    (0x0072_005E, "Selector AE Value"),
+    (0x0072_005F, "Selector AS Value"),
+    (0x0008_2112, "Source Image Sequence"),
+    (0x0400_0564, "Source of Previous Values"),
+    (0x0008_1010, "Station Name"),
+    (0x0020_0200, "Synchronization Frame of Reference UID"),
+    (0x0008_0201, "Timezone Offset From UTC"),
+    (0x300A_00B2, "Treatment Machine Name"),
+    (0x0040_A124, "UID"),
+    (0x0018_9371, "X-Ray Detector ID"),
+];
+
+// The repeating lines at the ends of their groups, private groups, element 0000, what is written anew, and tags without a row.
+const RULES: [(u64, &str); 21] = [
+    (0x5000_0005, "Curve Data, first group"),
+    (0x50FE_3000, "Curve Data, last group"),
+    (0x5100_0005, "past the curves"),
+    (0x6000_3000, "Overlay Data, first group"),
+    (0x60FE_3000, "Overlay Data, last group"),
+    (0x6002_4000, "Overlay Comments"),
+    (0x6000_0010, "Overlay Rows"),
+    (0x6100_3000, "past the overlays"),
+    (0x0009_0010, "private"),
+    (0x5001_0005, "private, among the curves"),
+    (0x6001_0010, "private, among the overlays"),
+    (0xFFFD_0010, "private, the last"),
+    (0x0008_0000, "element 0000"),
+    (0x7FE0_0000, "element 0000"),
+    (0x0012_0062, "Patient Identity Removed"),
+    (0x0012_0063, "De-identification Method"),
+    (0x0012_0064, "De-identification Method Code Sequence"),
+    (0x0028_0303, "Longitudinal Temporal Information Modified"),
+    (0x0008_0060, "Modality"),
+    (0x7FE0_0010, "Pixel Data"),
+    (0xFFFC_FFFD, "past the last row"),
+];
+
 pub fn all(rt: &impl Print) -> io::Result<()> {
-    report::text(
-        rt,
-        b"tag and name: no option | each option alone, bits 0 to 5 | all but Modified Dates, all but Full Dates | no option, in an item\n",
+    println!(rt;
+        "tag and name: no option | each option alone, bits 0 to 5 | all but Modified Dates, all but Full Dates | no option, in an item"
     )?;
-    rows(rt)?;
-    more_rows(rt)?;
-    rules(rt)
+    let rows = table::rows();
+    for (tag, name) in ROWS {
+        case(rt, &rows, tag, name)?;
+    }
+    for (tag, name) in RULES {
+        case(rt, &rows, tag, name)?;
+    }
+    Ok(())
 }
 
-// Document 01's letter for an action.
-fn letter(a: Action) -> u8 {
-    match a {
-        Action::Remove => b'X',
-        Action::Keep => b'K',
-        Action::Empty => b'Z',
-        Action::Dummy => b'D',
-        Action::Rename => b'U',
-        Action::Clean => b'C',
-        Action::CleanDates => b'C',
+// By no option, by each alone, by all but one date option, and in an item.
+fn case(rt: &impl Print, rows: &[u64], tag: u64, name: &str) -> io::Result<()>
+    requires { rows.now ≡ table }
+{
+    print!(rt; "({:04X},{:04X}) {name}:", tag >> 16, tag & 0xFFFF)?;
+    action(rt, rows, 0, true, tag)?;
+    print!(rt; " |")?;
+    for options in [1, 2, 4, 8, 16, 32] {
+        action(rt, rows, options, true, tag)?;
     }
-}
-
-// Whether a C stands in Modified Dates' column.
-fn in_dates_column(a: Action) -> bool {
-    match a {
-        Action::CleanDates => true,
-        _ => false,
-    }
+    print!(rt; " |")?;
+    action(rt, rows, 61, true, tag)?;
+    action(rt, rows, 62, true, tag)?;
+    print!(rt; " |")?;
+    action(rt, rows, 0, false, tag)?;
+    println!(rt)
 }
 
 fn action(rt: &impl Print, rows: &[u64], options: u64, top: bool, tag: u64) -> io::Result<()>
     requires { rows.now ≡ table }
 {
-    let a = table::action_of(rows, options, top, tag);
-    let blank_and_letter = [b' ', letter(a)];
-    report::text(rt, &blank_and_letter)?;
-    if in_dates_column(a) {
-        report::text(rt, b"(dates)")?;
+    let action = table::action_of(rows, options, top, tag);
+    print!(rt; " {}", letter(action))
+}
+
+// Document 01's letter for an action; of a C, whether it stands in Modified Dates' column.
+fn letter(action: Action) -> &'static str {
+    match action {
+        Action::Remove => "X",
+        Action::Keep => "K",
+        Action::Empty => "Z",
+        Action::Dummy => "D",
+        Action::Rename => "U",
+        Action::Clean => "C",
+        Action::CleanDates => "C(dates)",
     }
-    Ok(())
-}
-
-fn alone(rt: &impl Print, rows: &[u64], tag: u64) -> io::Result<()>
-    requires { rows.now ≡ table }
-{
-    action(rt, rows, 1, true, tag)?;
-    action(rt, rows, 2, true, tag)?;
-    action(rt, rows, 4, true, tag)?;
-    action(rt, rows, 8, true, tag)?;
-    action(rt, rows, 16, true, tag)?;
-    action(rt, rows, 32, true, tag)
-}
-
-// By no option, by each alone, by all but one date option, and in an item.
-fn actions(rt: &impl Print, rows: &[u64], tag: u64) -> io::Result<()>
-    requires { rows.now ≡ table }
-{
-    action(rt, rows, 0, true, tag)?;
-    report::text(rt, b" |")?;
-    alone(rt, rows, tag)?;
-    report::text(rt, b" |")?;
-    action(rt, rows, 61, true, tag)?;
-    action(rt, rows, 62, true, tag)?;
-    report::text(rt, b" |")?;
-    action(rt, rows, 0, false, tag)
-}
-
-// What a hexadecimal digit stands for.
-fn digit(b: u8) -> u64
-    ensures { result < 16 }
-{
-    match b {
-        b'0'..=b'9' => (b - b'0') as u64,
-        b'A'..=b'F' => (b - b'A') as u64 + 10,
-        _ => 0,
-    }
-}
-
-// The number that four hexadecimal digits stand for.
-fn four(s: &[u8], at: usize) -> u64
-    requires { at + 4 < length s.now }
-    ensures { result < 65536 }
-{
-    4096 * digit(s[at]) + 256 * digit(s[at + 1]) + 16 * digit(s[at + 2]) + digit(s[at + 3])
-}
-
-// A line is a tag and a name, "(0008,0018) SOP Instance UID".
-pub fn case(rt: &impl Print, line: &[u8]) -> io::Result<()> {
-    if line.len() < 11 {
-        return Ok(());
-    }
-    report::text(rt, line)?;
-    report::text(rt, b":")?;
-    let rows = table::rows();
-    actions(rt, &rows, 65536 * four(line, 1) + four(line, 6))?;
-    report::end(rt)
-}
-
-// By name, as the page has them, and at least one from each sheet of it; also the first and the last row by tag, and the three tags that
-// are printed twice (A16).
-fn rows(rt: &impl Print) -> io::Result<()> {
-    cases::each(
-        rt,
-        Kind::Row,
-        b"(0008,002A) Acquisition DateTime\n\
-        (0000,1000) Affected SOP Instance UID\n\
-        (0010,2110) Allergies\n\
-        (300C,0127) Beam Hold Transition DateTime\n\
-        (0018,1203) Calibration DateTime\n\
-        (0012,0060) Clinical Trial Coordinating Center Name\n\
-        (0012,0071) Clinical Trial Series ID\n\
-        (0012,0030) Clinical Trial Site ID\n\
-        (0008,0023) Content Date\n\
-        (FFFC,FFFC) Data Set Trailing Padding\n\
-        (0018,700C) Date of Last Detector Calibration\n\
-        (2100,0140) Destination AE\n\
-        (0018,1002) Device UID\n\
-        (0400,0100) Digital Signature UID\n\
-        (300A,0013) Dose Reference UID\n\
-        (0010,2160) Ethnic Group\n\
-        (0018,9623) Functional Sync Pulse\n\
-        (0016,0070) GPS Version ID\n\
-        (0008,0081) Institution Address\n\
-        (0008,0082) Institution Code Sequence\n\
-        (4008,010B) Interpretation Text\n\
-        (2200,0002) Label Text\n\
-        (0018,100B) Manufacturer's Device Class UID\n\
-        (0008,1000) Network ID\n\
-        (0008,1072) Operator Identification Sequence\n\
-        (0010,0030) Patient's Birth Date\n\
-        (0010,2203) Patient's Sex Neutered\n",
-    )
-}
-
-fn more_rows(rt: &impl Print) -> io::Result<()> {
-    cases::each(
-        rt,
-        Kind::Row,
-        b"(0038,0500) Patient State\n\
-        (0040,0241) Performed Station AE Title\n\
-        (0040,A123) Person Name\n\
-        (0040,0012) Pre-Medication\n\
-        (0018,1030) Protocol Name\n\
-        (0074,1234) Receiving AE\n\
-        (0008,1140) Referenced Image Sequence\n\
-        (0008,1120) Referenced Patient Sequence\n\
-        (0008,1111) Referenced Performed Procedure Step Sequence\n\
-        (0008,1110) Referenced Study Sequence\n\
-        (3006,00C2) Related Frame of Reference UID\n\
-        (300E,0005) Review Time\n\
-        (300A,0006) RT Plan Date\n\
-        (0040,0011) Scheduled Procedure Step Location\n\
-        (0040,0001) Scheduled Station AE Title\n\
-        (0032,1021) Scheduled Study Location AE Title\n\
-        (0072,005E) Selector AE Value\n\
-        (0072,005F) Selector AS Value\n\
-        (0008,2112) Source Image Sequence\n\
-        (0400,0564) Source of Previous Values\n\
-        (0008,1010) Station Name\n\
-        (0020,0200) Synchronization Frame of Reference UID\n\
-        (0008,0201) Timezone Offset From UTC\n\
-        (300A,00B2) Treatment Machine Name\n\
-        (0040,A124) UID\n\
-        (0018,9371) X-Ray Detector ID\n",
-    )
-}
-
-// The repeating lines at the ends of their groups, private groups, element 0000, what is written anew, and tags without a row.
-fn rules(rt: &impl Print) -> io::Result<()> {
-    cases::each(
-        rt,
-        Kind::Row,
-        b"(5000,0005) Curve Data, first group\n\
-        (50FE,3000) Curve Data, last group\n\
-        (5100,0005) past the curves\n\
-        (6000,3000) Overlay Data, first group\n\
-        (60FE,3000) Overlay Data, last group\n\
-        (6002,4000) Overlay Comments\n\
-        (6000,0010) Overlay Rows\n\
-        (6100,3000) past the overlays\n\
-        (0009,0010) private\n\
-        (5001,0005) private, among the curves\n\
-        (6001,0010) private, among the overlays\n\
-        (FFFD,0010) private, the last\n\
-        (0008,0000) element 0000\n\
-        (7FE0,0000) element 0000\n\
-        (0012,0062) Patient Identity Removed\n\
-        (0012,0063) De-identification Method\n\
-        (0012,0064) De-identification Method Code Sequence\n\
-        (0028,0303) Longitudinal Temporal Information Modified\n\
-        (0008,0060) Modality\n\
-        (7FE0,0010) Pixel Data\n\
-        (FFFC,FFFD) past the last row\n",
-    )
 }

@@ -1,42 +1,42 @@
 // Option number and shift, judged: refusal 1.
 use crate::report;
+use refusals::Refusal;
 use std::io;
 
-fn case(rt: &impl Print, number: u64, shift: i64) -> io::Result<()> {
-    report::text(rt, b"number ")?;
-    print!(rt; "{number}")?;
-    report::text(rt, b", shift ")?;
-    report::signed(rt, shift)?;
-    report::judged(rt, options::settings_fault(number, shift), 1)
-}
+const SETTINGS: [(u64, i64); 24] = [
+    // Numbers; 63 has both date options.
+    (0, 0),
+    (63, 0),
+    (62, 0),
+    (61, 0),
+    (60, 0),
+    (64, 0),
+    (66, 1),
+    (18446744073709551615, 0),
+    (3, 0),
+    (7, 1),
+    // Shifts.
+    (2, 0),
+    (2, 36500),
+    (2, -36500),
+    (2, 36501),
+    (2, -36501),
+    (62, 1),
+    (62, -1),
+    (2, 9223372036854775807),
+    (2, -9223372036854775808),
+    (0, 1),
+    (0, -1),
+    (1, 1),
+    (60, 1),
+    (0, -9223372036854775808),
+];
 
-// 63 has both date options.
-pub fn numbers(rt: &impl Print) -> io::Result<()> {
-    case(rt, 0, 0)?;
-    case(rt, 63, 0)?;
-    case(rt, 62, 0)?;
-    case(rt, 61, 0)?;
-    case(rt, 60, 0)?;
-    case(rt, 64, 0)?;
-    case(rt, 66, 1)?;
-    case(rt, 18446744073709551615, 0)?;
-    case(rt, 3, 0)?;
-    case(rt, 7, 1)
-}
-
-pub fn shifts(rt: &impl Print) -> io::Result<()> {
-    case(rt, 2, 0)?;
-    case(rt, 2, 36500)?;
-    case(rt, 2, -36500)?;
-    case(rt, 2, 36501)?;
-    case(rt, 2, -36501)?;
-    case(rt, 62, 1)?;
-    case(rt, 62, -1)?;
-    case(rt, 2, 9223372036854775807)?;
-    case(rt, 2, -9223372036854775808)?;
-    case(rt, 0, 1)?;
-    case(rt, 0, -1)?;
-    case(rt, 1, 1)?;
-    case(rt, 60, 1)?;
-    case(rt, 0, -9223372036854775808)
+pub fn all(rt: &impl Print) -> io::Result<()> {
+    for (number, shift) in SETTINGS {
+        print!(rt; "number {number}, shift {shift}")?;
+        let fault = options::settings_fault(number, shift);
+        report::judged(rt, fault, Refusal::BadSettings)?;
+    }
+    Ok(())
 }

@@ -1,8 +1,6 @@
 // The ledger: how many slots it has, and the numbers that UIDs get in it.
-ghost use Rattle.std.specs.Prelude.{◌≡◌, length};
-
-use crate::{cases, report};
 use ledger::Slot;
+use refusals::Refusal;
 use std::io;
 
 pub fn all(rt: &impl Print) -> io::Result<()> {
@@ -10,153 +8,100 @@ pub fn all(rt: &impl Print) -> io::Result<()> {
     first_appearance(rt)?;
     in_use(rt)?;
     garbage(rt)?;
-    no_slot(rt)
-}
-
-fn count(rt: &impl Print, lent: &[u8], n: usize) -> io::Result<()> {
-    if lent.len() < n {
-        return Ok(());
-    }
-    report::text(rt, b"slots of a ledger of ")?;
-    report::number(rt, n)?;
-    report::colon(rt)?;
-    report::number(rt, ledger::slots(&lent[0..n]))?;
-    report::end(rt)
-}
-
-fn lengths(rt: &impl Print, lent: &[u8]) -> io::Result<()> {
-    count(rt, lent, 0)?;
-    count(rt, lent, 63)?;
-    count(rt, lent, 64)?;
-    count(rt, lent, 127)?;
-    count(rt, lent, 128)?;
-    count(rt, lent, 65535)?;
-    count(rt, lent, 65536)?;
-    count(rt, lent, 65600)
+    cases(rt, "63 bytes", &mut [0u8; 63], 0, &["1.2.3"])
 }
 
 fn counts(rt: &impl Print) -> io::Result<()> {
     let lent = [0u8; 65600];
-    lengths(rt, &lent)
-}
-
-// The slot that was answered, of those in use; the new count of these.
-fn answer(rt: &impl Print, slot: Slot, used: usize) -> io::Result<usize> {
-    match slot {
-        Slot::Full => {
-            report::number(rt, 13)?;
-            Ok(used)
-        }
-        Slot::At(n, count) => {
-            report::number(rt, n)?;
-            report::text(rt, b" of ")?;
-            report::number(rt, count)?;
-            Ok(count)
-        }
-    }
-}
-
-// Asks for a UID's slot; the new count in use.
-fn ask(rt: &impl Print, uid: &[u8], lent: &mut [u8], used: usize) -> io::Result<usize>
-    ensures { length lent.new ≡ length lent.old }
-{
-    if ledger::SLOT_SIZE < uid.len() {
-        return Ok(used);
-    }
-    if ledger::slots(lent) < used {
-        return Ok(used);
-    }
-    report::text(rt, uid)?;
-    report::colon(rt)?;
-    let slot = ledger::slot_of(uid, 0, uid.len(), lent, used);
-    answer(rt, slot, used)
-}
-
-// Asks for the UIDs of a text, one to a line, one after the other, in a ledger that a name tells.
-fn each(rt: &impl Print, name: &[u8], uids: &[u8], lent: &mut [u8], used: usize) -> io::Result<()>
-    ensures { length lent.new ≡ length lent.old }
-{
-    let mut count = used;
-    let mut at = 0;
-    while at < uids.len() {
-        let to = cases::find(uids, at, b'\n');
-        report::text(rt, name)?;
-        count = ask(rt, &uids[at..to], lent, count)?;
-        report::end(rt)?;
-        if to == uids.len() {
-            return Ok(());
-        }
-        at = to + 1;
+    for n in [0, 63, 64, 127, 128, 65535, 65536, 65600] {
+        println!(rt; "slots of a ledger of {n}: {}", ledger::slots(&lent[..n]))?;
     }
     Ok(())
 }
 
-// A UID put into a ledger by hand.
-fn put(uid: &[u8], lent: &mut [u8], at: usize)
-    ensures { length lent.new ≡ length lent.old }
-{
-    if 128 < at {
-        return;
+// Asks for the slots of UIDs, one after the other, in a ledger that a name tells.
+fn cases(
+    rt: &impl Print,
+    name: &str,
+    lent: &mut [u8],
+    used: usize,
+    uids: &[&str],
+) -> io::Result<()> {
+    let mut count = used;
+    for uid in uids {
+        print!(rt; "{name}, {uid}: ")?;
+        count = ask(rt, uid.as_bytes(), lent, count)?;
+        println!(rt)?;
     }
-    if 64 < uid.len() {
-        return;
+    Ok(())
+}
+
+// Asks for a UID's slot; the new count in use.
+fn ask(rt: &impl Print, uid: &[u8], lent: &mut [u8], used: usize) -> io::Result<usize> {
+    if ledger::SLOT_SIZE < uid.len() || ledger::slots(lent) < used {
+        return Ok(used);
     }
-    buffer::copy_block(uid, 0, uid.len(), lent, at);
+    match ledger::slot_of(uid, lent, used) {
+        None => {
+            print!(rt; "{}", Refusal::NoSlot.number())?;
+            Ok(used)
+        }
+        Some(Slot { number, used }) => {
+            print!(rt; "{number} of {used}")?;
+            Ok(used)
+        }
+    }
 }
 
 // By first appearance, until no slot is free; two of 64 characters differ in the last.
 fn first_appearance(rt: &impl Print) -> io::Result<()> {
-    let mut lent = [0u8; 192];
-    each(
+    cases(
         rt,
-        b"three free slots, ",
-        b"1.2.3\n\
-        1.2.4\n\
-        1.2.3\n\
-        1.2.840.113619.2.55.3.604688119.971.1263887123.450.1234567890.12\n\
-        1.2.840.113619.2.55.3.604688119.971.1263887123.450.1234567890.13\n\
-        1.2.840.113619.2.55.3.604688119.971.1263887123.450.1234567890.12\n\
-        1.2.4\n",
-        &mut lent,
+        "three free slots",
+        &mut [0u8; 192],
         0,
+        &[
+            "1.2.3",
+            "1.2.4",
+            "1.2.3",
+            "1.2.840.113619.2.55.3.604688119.971.1263887123.450.1234567890.12",
+            "1.2.840.113619.2.55.3.604688119.971.1263887123.450.1234567890.13",
+            "1.2.840.113619.2.55.3.604688119.971.1263887123.450.1234567890.12",
+            "1.2.4",
+        ],
     )
 }
 
 // The first of equal slots; what stands past those in use is not found; one that begins like another is not that one.
 fn in_use(rt: &impl Print) -> io::Result<()> {
     let mut lent = [0u8; 192];
-    put(b"1.2.3", &mut lent, 0);
-    put(b"1.2.3", &mut lent, 64);
-    each(
+    lent[..5].copy_from_slice(b"1.2.3");
+    lent[64..69].copy_from_slice(b"1.2.3");
+    cases(
         rt,
-        b"1.2.3 twice in use, ",
-        b"1.2.3\n1.2.9\n1.2.4\n1.2.9\n",
+        "1.2.3 twice in use",
         &mut lent,
         2,
+        &["1.2.3", "1.2.9", "1.2.4", "1.2.9"],
     )?;
-    each(
+    cases(
         rt,
-        b"the first slot in use, ",
-        b"1.2.9\n1.2\n1.2.34\n1.2.3\n",
+        "the first slot in use",
         &mut lent,
         1,
+        &["1.2.9", "1.2", "1.2.34", "1.2.3"],
     )
 }
 
 // A slot with garbage behind the UID is not found, and stays.
 fn garbage(rt: &impl Print) -> io::Result<()> {
     let mut lent = [0u8; 192];
-    put(b"1.2.3\0x", &mut lent, 0);
-    each(
+    lent[..7].copy_from_slice(b"1.2.3\0x");
+    cases(
         rt,
-        b"1.2.3 and garbage in use, ",
-        b"1.2.3\n1.2.3\n",
+        "1.2.3 and garbage in use",
         &mut lent,
         1,
+        &["1.2.3", "1.2.3"],
     )
-}
-
-fn no_slot(rt: &impl Print) -> io::Result<()> {
-    let mut lent = [0u8; 63];
-    each(rt, b"63 bytes, ", b"1.2.3\n", &mut lent, 0)
 }

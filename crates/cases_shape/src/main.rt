@@ -11,22 +11,9 @@ mod wholes;
 use std::io;
 
 fn main(rt: HostRuntime) -> io::Result<()> {
-    wholes::fine(&rt)?;
-    wholes::sequences(&rt)?;
-    elements::short(&rt)?;
-    elements::past_the_end(&rt)?;
-    elements::groups(&rt)?;
-    elements::order(&rt)?;
-    elements::marks(&rt)?;
-    elements::vrs(&rt)?;
-    elements::odd(&rt)?;
-    elements::undefined(&rt)?;
-    items::short(&rt)?;
-    items::tags(&rt)?;
-    items::lengths(&rt)?;
-    wholes::ends(&rt)?;
-    wholes::depths(&rt)?;
-    wholes::ninth(&rt)?;
-    wholes::depths_elsewhere(&rt)?;
+    wholes::well_made(&rt)?;
+    elements::all(&rt)?;
+    items::all(&rt)?;
+    wholes::at_the_limits(&rt)?;
     wholes::long(&rt)
 }

@@ -1,79 +1,66 @@
 // What a case prints: its name, and for each container that it stands in the refusal's number with its offset, or that all is well.
-ghost use Rattle.std.specs.Prelude.{◌≡◌, length};
-
 use crate::pieces;
-use layout::Shape;
+use crate::pieces::Piece;
+use crate::pieces::Piece::{Bytes, Item, Sequence};
+use layout::UNDEFINED;
 use std::io;
 
-fn number(rt: &impl Print, n: usize) -> io::Result<()> {
-    print!(rt; "{n}")
-}
+// The sequence that elements and items are put in.
+const OUTER: u64 = 0x0040_0275;
 
-// The shape of the bytes from `from` up to `to`.
-pub fn shape(rt: &impl Print, out: &[u8], from: usize, to: usize) -> io::Result<()> {
-    if to < from {
-        return rt.write_all(b" too long");
-    }
-    if out.len() < to {
-        return rt.write_all(b" too long");
-    }
-    let r = layout::shape_of(&out[from..to]);
-    match r {
-        Shape::Fine(past) => {
-            rt.write_all(b" fine to ")?;
-            number(rt, past)
-        }
-        Shape::Fault(n, o) => {
-            rt.write_all(b" ")?;
-            number(rt, n as usize)?;
-            rt.write_all(b" at ")?;
-            number(rt, o)
-        }
+// The shape of pieces, put together in a room.
+fn shape(rt: &impl Print, room: &mut [u8], pieces: &[Piece]) -> io::Result<()> {
+    let Some(bytes) = pieces::put_together(room, pieces) else {
+        return print!(rt; " too long");
+    };
+    match layout::shape_of(bytes) {
+        Ok(past) => print!(rt; " fine to {past}"),
+        Err(fault) => print!(rt; " {} at {}", fault.refusal.number(), fault.offset),
     }
 }
 
-// Elements that stand from 20 on: by themselves, in an item of stated length, and in one of undefined length.
-pub fn elements(rt: &impl Print, name: &[u8], out: &mut [u8], to: usize) -> io::Result<()>
-    ensures { length out.new ≡ length out.old }
-{
-    rt.write_all(name)?;
-    rt.write_all(b": top")?;
-    shape(rt, out, 20, to)?;
-    if to < 20 {
-        return Ok(());
-    }
-    pieces::sequence(out, 0, 0x0040_0275, to - 12);
-    pieces::item(out, 12, to - 20);
-    rt.write_all(b"; stated")?;
-    shape(rt, out, 0, to)?;
-    pieces::sequence(out, 0, 0x0040_0275, pieces::UNDEFINED);
-    pieces::item(out, 12, pieces::UNDEFINED);
-    rt.write_all(b"; undefined")?;
-    shape(rt, out, 0, to)?;
-    rt.write_all(b"\n")
+// Elements by themselves, in an item of stated length, and in one of undefined length.
+pub fn elements(rt: &impl Print, name: &str, pieces: &[Piece]) -> io::Result<()> {
+    let mut alone = [0u8; 512];
+    let Some(elements) = pieces::put_together(&mut alone, pieces) else {
+        return println!(rt; "{name}: too long");
+    };
+    let n = elements.len();
+    let mut room = [0u8; 1024];
+    print!(rt; "{name}: top")?;
+    shape(rt, &mut room, &[Bytes(elements)])?;
+    print!(rt; "; stated")?;
+    shape(
+        rt,
+        &mut room,
+        &[Sequence(OUTER, n + 8), Item(n), Bytes(elements)],
+    )?;
+    print!(rt; "; undefined")?;
+    shape(
+        rt,
+        &mut room,
+        &[Sequence(OUTER, UNDEFINED), Item(UNDEFINED), Bytes(elements)],
+    )?;
+    println!(rt)
 }
 
-// Items that stand from 12 on: in a sequence of stated length, and in one of undefined length.
-pub fn items(rt: &impl Print, name: &[u8], out: &mut [u8], to: usize) -> io::Result<()>
-    ensures { length out.new ≡ length out.old }
-{
-    rt.write_all(name)?;
-    if to < 12 {
-        return Ok(());
-    }
-    pieces::sequence(out, 0, 0x0040_0275, to - 12);
-    rt.write_all(b": stated")?;
-    shape(rt, out, 0, to)?;
-    pieces::sequence(out, 0, 0x0040_0275, pieces::UNDEFINED);
-    rt.write_all(b"; undefined")?;
-    shape(rt, out, 0, to)?;
-    rt.write_all(b"\n")
+// Items in a sequence of stated length, and in one of undefined length.
+pub fn items(rt: &impl Print, name: &str, pieces: &[Piece]) -> io::Result<()> {
+    let mut alone = [0u8; 512];
+    let Some(items) = pieces::put_together(&mut alone, pieces) else {
+        return println!(rt; "{name}: too long");
+    };
+    let mut room = [0u8; 1024];
+    print!(rt; "{name}: stated")?;
+    shape(rt, &mut room, &[Sequence(OUTER, items.len()), Bytes(items)])?;
+    print!(rt; "; undefined")?;
+    shape(rt, &mut room, &[Sequence(OUTER, UNDEFINED), Bytes(items)])?;
+    println!(rt)
 }
 
-// A whole data set, up to `to`.
-pub fn whole(rt: &impl Print, name: &[u8], out: &[u8], to: usize) -> io::Result<()> {
-    rt.write_all(name)?;
-    rt.write_all(b":")?;
-    shape(rt, out, 0, to)?;
-    rt.write_all(b"\n")
+// A whole data set.
+pub fn whole(rt: &impl Print, name: &str, room: &mut [u8], pieces: &[Piece]) -> io::Result<()> {
+    print!(rt; "{name}:")?;
+    shape(rt, room, pieces)?;
+    println!(rt)
 }

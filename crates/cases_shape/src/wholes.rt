@@ -1,110 +1,141 @@
 // Whole data sets: what is well made, what lacks its end, how deep items nest, and long levels.
+use crate::pieces::Piece;
+use crate::pieces::Piece::{
+    Bytes, Close, Element, Elements, Item, ItemEnd, Items, Nest, NestStated, Sequence, SequenceEnd,
+};
 use crate::{pieces, report};
+use layout::UNDEFINED;
 use std::io;
+use vr::{CS, LO, PN};
 
-pub fn fine(rt: &impl Print) -> io::Result<()> {
-    let mut out = pieces::desk();
-    report::whole(rt, b"empty_data_set", &out, 0)?;
-    let a = pieces::element(&mut out, 0, 0x0010_0010, vr::PN, 8);
-    let b = pieces::bytes(&mut out, a, 8);
-    report::whole(rt, b"one_element", &out, b)?;
-    let c = pieces::sequence(&mut out, b, 0x0010_1002, 0);
-    report::whole(rt, b"empty_sequence", &out, c)
-}
+const WELL_MADE: [(&str, &[Piece]); 6] = [
+    ("empty_data_set", &[]),
+    (
+        "one_element",
+        &[Element(0x0010_0010, PN, 8), Bytes(b"AAAAAAAA")],
+    ),
+    (
+        "empty_sequence",
+        &[
+            Element(0x0010_0010, PN, 8),
+            Bytes(b"AAAAAAAA"),
+            Sequence(0x0010_1002, 0),
+        ],
+    ),
+    // Sequences with stated lengths and with undefined ones.
+    (
+        "stated_sequence_and_item",
+        &[
+            Sequence(0x0010_1002, 16),
+            Item(8),
+            Element(0x0010_0020, LO, 0),
+        ],
+    ),
+    (
+        "undefined_sequence_and_items",
+        &[
+            Sequence(0x0010_1002, UNDEFINED),
+            Item(0),
+            Item(UNDEFINED),
+            Element(0x0010_0020, LO, 0),
+            ItemEnd(0),
+            SequenceEnd(0),
+        ],
+    ),
+    (
+        "undefined_sequence_without_items",
+        &[Sequence(0x0010_1002, UNDEFINED), SequenceEnd(0)],
+    ),
+];
 
-// Sequences with stated lengths and with undefined ones.
-pub fn sequences(rt: &impl Print) -> io::Result<()> {
-    let mut out = pieces::desk();
-    let d = pieces::sequence(&mut out, 0, 0x0010_1002, 16);
-    let e = pieces::item(&mut out, d, 8);
-    let f = pieces::element(&mut out, e, 0x0010_0020, vr::LO, 0);
-    report::whole(rt, b"stated_sequence_and_item", &out, f)?;
-    let g = pieces::sequence(&mut out, 0, 0x0010_1002, pieces::UNDEFINED);
-    let h = pieces::item(&mut out, g, 0);
-    let i = pieces::item(&mut out, h, pieces::UNDEFINED);
-    let j = pieces::element(&mut out, i, 0x0010_0020, vr::LO, 0);
-    let k = pieces::item_end(&mut out, j);
-    let l = pieces::sequence_end(&mut out, k);
-    report::whole(rt, b"undefined_sequence_and_items", &out, l)?;
-    let m = pieces::sequence(&mut out, 0, 0x0010_1002, pieces::UNDEFINED);
-    let n = pieces::sequence_end(&mut out, m);
-    report::whole(rt, b"undefined_sequence_without_items", &out, n)
-}
-
-// The end mark is missing: 6 where it should stand.
-pub fn ends(rt: &impl Print) -> io::Result<()> {
-    let mut out = pieces::desk();
-    let z = pieces::bytes(&mut out, 0, 7);
-    report::whole(rt, b"seven_bytes", &out, z)?;
-    let a = pieces::nest(&mut out, 0, 1);
-    report::whole(rt, b"item_end_missing", &out, a)?;
-    let b = pieces::item_end(&mut out, a);
-    report::whole(rt, b"sequence_end_missing", &out, b)?;
-    let c = pieces::sequence(&mut out, 0, 0x0010_1002, 20);
-    let d = pieces::item(&mut out, c, pieces::UNDEFINED);
-    let e = pieces::sequence(&mut out, d, 0x0010_1003, 0);
-    let f = pieces::item_end(&mut out, e);
-    report::whole(rt, b"item_end_past_the_stated_sequence", &out, f)
-}
-
-// Items nest eight deep, and not nine: 10 at the ninth.
-pub fn depths(rt: &impl Print) -> io::Result<()> {
-    let mut out = pieces::desk();
-    let a = pieces::nest(&mut out, 0, 8);
-    let b = pieces::close(&mut out, a, 8);
-    report::whole(rt, b"eight_deep", &out, b)?;
-    let c = pieces::nest(&mut out, 0, 9);
-    let d = pieces::close(&mut out, c, 9);
-    report::whole(rt, b"nine_deep", &out, d)?;
-    let e = pieces::sequence(&mut out, a, 0x0040_0555, 0);
-    let f = pieces::close(&mut out, e, 8);
-    report::whole(rt, b"empty_sequence_in_the_eighth_item", &out, f)
-}
-
-// What else may stand where a ninth item would.
-pub fn ninth(rt: &impl Print) -> io::Result<()> {
-    let mut out = pieces::desk();
-    let a = pieces::nest(&mut out, 0, 8);
-    let g = pieces::sequence(&mut out, a, 0x0040_0555, pieces::UNDEFINED);
-    let h = pieces::sequence_end(&mut out, g);
-    let i = pieces::close(&mut out, h, 8);
-    report::whole(rt, b"sequence_end_at_the_ninth_level", &out, i)?;
-    let j = pieces::item(&mut out, g, 3);
-    report::whole(rt, b"odd_ninth_item", &out, j)?;
-    let l = pieces::bytes(&mut out, g, 7);
-    report::whole(rt, b"ninth_item_of_seven_bytes", &out, l)?;
-    let k = pieces::item_end(&mut out, g);
-    report::whole(rt, b"wrong_tag_for_a_ninth_item", &out, k)
-}
-
-// The same where lengths are stated, and where nothing of it will be kept.
-pub fn depths_elsewhere(rt: &impl Print) -> io::Result<()> {
-    let mut out = pieces::desk();
-    let a = pieces::nest_stated(&mut out, 8);
-    report::whole(rt, b"eight_deep_stated", &out, a)?;
-    let b = pieces::nest_stated(&mut out, 9);
-    report::whole(rt, b"nine_deep_stated", &out, b)?;
-    let c = pieces::sequence(&mut out, 0, 0x0009_1010, pieces::UNDEFINED);
-    let d = pieces::item(&mut out, c, pieces::UNDEFINED);
-    let e = pieces::nest(&mut out, d, 8);
-    report::whole(rt, b"nine_deep_in_a_private_group", &out, e)
-}
+const AT_THE_LIMITS: [(&str, &[Piece]); 14] = [
+    // The end mark is missing: 6 where it should stand.
+    ("seven_bytes", &[Bytes(b"AAAAAAA")]),
+    ("item_end_missing", &[Nest(1)]),
+    ("sequence_end_missing", &[Nest(1), ItemEnd(0)]),
+    (
+        "item_end_past_the_stated_sequence",
+        &[
+            Sequence(0x0010_1002, 20),
+            Item(UNDEFINED),
+            Sequence(0x0010_1003, 0),
+            ItemEnd(0),
+        ],
+    ),
+    // Items nest eight deep, and not nine: 10 at the ninth.
+    ("eight_deep", &[Nest(8), Close(8)]),
+    ("nine_deep", &[Nest(9), Close(9)]),
+    (
+        "empty_sequence_in_the_eighth_item",
+        &[Nest(8), Sequence(0x0040_0555, 0), Close(8)],
+    ),
+    // What else may stand where a ninth item would.
+    (
+        "sequence_end_at_the_ninth_level",
+        &[
+            Nest(8),
+            Sequence(0x0040_0555, UNDEFINED),
+            SequenceEnd(0),
+            Close(8),
+        ],
+    ),
+    (
+        "odd_ninth_item",
+        &[Nest(8), Sequence(0x0040_0555, UNDEFINED), Item(3)],
+    ),
+    (
+        "ninth_item_of_seven_bytes",
+        &[Nest(8), Sequence(0x0040_0555, UNDEFINED), Bytes(b"AAAAAAA")],
+    ),
+    (
+        "wrong_tag_for_a_ninth_item",
+        &[Nest(8), Sequence(0x0040_0555, UNDEFINED), ItemEnd(0)],
+    ),
+    // The same where lengths are stated, and where nothing of it will be kept.
+    ("eight_deep_stated", &[NestStated(8)]),
+    ("nine_deep_stated", &[NestStated(9)]),
+    (
+        "nine_deep_in_a_private_group",
+        &[Sequence(0x0009_1010, UNDEFINED), Item(UNDEFINED), Nest(8)],
+    ),
+];
 
 // 100,000 elements on one level, and 2,000 items in one sequence.
+const LONG: [(&str, &[Piece]); 4] = [
+    ("hundred_thousand_elements", &[Elements(100000)]),
+    (
+        "falling_after_them",
+        &[Elements(100000), Element(0x0010_0000, CS, 0)],
+    ),
+    (
+        "sequence_end_missing_after_two_thousand_items",
+        &[Sequence(0x0010_1002, UNDEFINED), Items(2000)],
+    ),
+    (
+        "two_thousand_items",
+        &[
+            Sequence(0x0010_1002, UNDEFINED),
+            Items(2000),
+            SequenceEnd(0),
+        ],
+    ),
+];
+
+fn cases(rt: &impl Print, room: &mut [u8], cases: &[(&str, &[Piece])]) -> io::Result<()> {
+    for (name, pieces) in cases {
+        report::whole(rt, name, room, pieces)?;
+    }
+    Ok(())
+}
+
+pub fn well_made(rt: &impl Print) -> io::Result<()> {
+    cases(rt, &mut [0u8; 1024], &WELL_MADE)
+}
+
+pub fn at_the_limits(rt: &impl Print) -> io::Result<()> {
+    cases(rt, &mut [0u8; 1024], &AT_THE_LIMITS)
+}
+
 pub fn long(rt: &impl Print) -> io::Result<()> {
-    let mut out = pieces::room();
-    let a = pieces::elements(&mut out, 100000);
-    report::whole(rt, b"hundred_thousand_elements", &out, a)?;
-    let b = pieces::element(&mut out, a, 0x0010_0000, vr::CS, 0);
-    report::whole(rt, b"falling_after_them", &out, b)?;
-    let c = pieces::sequence(&mut out, 0, 0x0010_1002, pieces::UNDEFINED);
-    let d = pieces::items(&mut out, c, 2000);
-    report::whole(
-        rt,
-        b"sequence_end_missing_after_two_thousand_items",
-        &out,
-        d,
-    )?;
-    let e = pieces::sequence_end(&mut out, d);
-    report::whole(rt, b"two_thousand_items", &out, e)
+    cases(rt, &mut pieces::room(), &LONG)
 }

@@ -5,25 +5,25 @@
 use mathlib.Core.Path.{◌≡◌, refl, sym, ap, ◌∙◌}
 use mathlib.Core.Bool.{Bool, true, false}
 use mathlib.Core.List.{List}
-use mathlib.Core.Option.{Option, none, some}
-use Prim.Native.Nat.{ℕ, zero, suc, ◌+◌, ◌-◌, ◌≤◌}
+use Rattle.std.specs.Prelude.{Option, None, Some, Result as Answer, Ok, Err}
+use Prim.Native.Nat.{ℕ, suc, ◌+◌, ◌-◌, ◌≤◌}
 use native.Mathlib.Omega.{arith}
 use lib.ListN.{length}
 use Rattle.basis.specs.Bytes.{part}
+use Rattle.refusals.specs.declared.Refusal.{Refusal}
+use Rattle.refusals.specs.declared.Fault.{Fault}
 use Rattle.vr.specs.Names.{SQ}
 use Rattle.layout.specs.Source.{Source}
 use Rattle.layout.specs.Tree.{value, items, Elements, nil, elem, Items, none as no_item, item, Place}
-use Rattle.layout.specs.Heads.{element_head, item_head}
+use Rattle.layout.specs.Heads.{unless, element_head, item_head}
 use Rattle.layout.specs.Limits.{deepest}
 use Rattle.layout.specs.Read.{Result, good, placed, elements_at, items_at, read, shape_of}
 use Rattle.layout.specs.Walks.{Inside, Within, Stays, container, WalkedItems}
 use Rattle.layout.specs.declared.Container.{Container}
 use Rattle.layout.specs.declared.Head.{Head}
-use Rattle.layout.specs.declared.Head.TheVariants.{Bad, End, Plain, Seq}
+use Rattle.layout.specs.declared.Head.TheVariants.{End, Plain, Seq}
 use Rattle.layout.specs.declared.Spot.{Spot}
-use Rattle.layout.specs.declared.Spot.TheVariants.{Wrong, Over, Item}
-use Rattle.layout.specs.declared.Shape.{Shape}
-use Rattle.layout.specs.declared.Shape.TheVariants.{Fine, Fault}
+use Rattle.layout.specs.declared.Spot.TheVariants.{Over, Item}
 use Rattle.layout.proofs.ReadLaws.{was-bad, was-end, was-plain, was-seq, was-wrong, was-over, was-item}
 use Rattle.treatment.specs.Settings.{Settings, Given}
 use Rattle.treatment.specs.Fates.{fate_of, fate, walks_into, below}
@@ -31,7 +31,7 @@ use Rattle.treatment.specs.declared.SettingNumbers.{SettingNumbers}
 use Rattle.treatment.specs.declared.Level.{Level}
 use Rattle.treatment.specs.declared.Level.TheVariants.{Top}
 use Rattle.treatment.specs.declared.Fate.{Fate}
-use Rattle.kept.specs.Faults.{Fault as FirstFault, at as fault_at, first, value_fault, field_fault, first_fault, items_fault}
+use Rattle.kept.specs.Faults.{at as fault_at, first, value_fault, field_fault, first_fault, items_fault}
 use Rattle.judge_values.specs.Judged.{judged, ElementJudged, ElementsJudged, SequenceJudged, ItemsJudged, WholeJudged}
 use Rattle.judge_values.proofs.ValueLaws.{given-fate}
 use Rattle.judge_values.proofs.Trace.{Trace, trace-start, trace-turn, trace-stop}
@@ -39,19 +39,25 @@ use Rattle.judge_values.proofs.Trace.{Trace, trace-start, trace-turn, trace-stop
 -- ---- judged, and the first of two faults
 
 -- a walk without a fault found none, and ended where it should
-judged-fine : (f : Option FirstFault) (p past : ℕ) → Fine p ≡ judged f past → (f ≡ none) × (p ≡ past)
-judged-fine none p past e = (refl, cc)
-judged-fine (some f) p past e = absurd (let z : ◌≡◌ {A = ℕ} 0 1 = cc in omega arith)
+judged-fine : (f : Option Fault) (p past : ℕ) → Ok p ≡ judged f past → (f ≡ None) × (p ≡ past)
+judged-fine None p past e = (refl, cc)
+judged-fine (Some f) p past e = absurd (let z : ◌≡◌ {A = ℕ} 0 1 = cc in omega arith)
 
 -- a fault is the first, whatever comes after it
-judged-first : (f g : Option FirstFault) (number offset past past' : ℕ) → Fault number offset ≡ judged f past → Fault number offset ≡ judged (first f g) past'
-judged-first none g number offset past past' e = absurd (let z : ◌≡◌ {A = ℕ} 0 1 = cc in omega arith)
-judged-first (some f) g number offset past past' e = e
+judged-first : (f g : Option Fault) (h : Fault) (past past' : ℕ) → Err h ≡ judged f past → Err h ≡ judged (first f g) past'
+judged-first None g h past past' e = absurd (let z : ◌≡◌ {A = ℕ} 0 1 = cc in omega arith)
+judged-first (Some f) g h past past' e = e
 
 -- the fault of a value, at its element
-judged-at : (number offset : ℕ) (g : Option FirstFault) (past : ℕ) → (number ≡ 0 → ⊥) → Fault number offset ≡ judged (first (fault_at number offset) g) past
-judged-at zero offset g past ne = absurd (ne refl)
-judged-at (suc number) offset g past ne = refl
+judged-at : (v : Option Refusal) (h : Fault) (offset : ℕ) (g : Option Fault) (past : ℕ) → Err h.refusal ≡ unless {A = Unit {0}} v tt → h.offset ≡ offset
+    → Err h ≡ judged (first (fault_at v offset) g) past
+judged-at None h offset g past e o = absurd (let z : ◌≡◌ {A = ℕ} 0 1 = cc in omega arith)
+judged-at (Some r) h offset g past e o = let same : h.refusal ≡ r = cc in λ i. Err (record { refusal = same i; offset = o i })
+
+-- a value that is not refused
+not-refused : (v : Option Refusal) → Ok tt ≡ unless {A = Unit {0}} v tt → v ≡ None
+not-refused None e = refl
+not-refused (Some r) e = absurd (let z : ◌≡◌ {A = ℕ} 0 1 = cc in omega arith)
 
 -- ---- the first fault of what was read at a place
 
@@ -66,11 +72,11 @@ module _ (w : Settings) (level : Level) where
   unfolding first_fault
   seq-fault at body past tag is es es' e = ap (λ t. first_fault t w level) e
 
-  nil-fault : (es : Elements Place) → es ≡ nil → first_fault es w level ≡ none
+  nil-fault : (es : Elements Place) → es ≡ nil → first_fault es w level ≡ None
   unfolding first_fault
   nil-fault es e = ap (λ t. first_fault t w level) e
 
-  over-fault : (is : Items Place) → is ≡ no_item → items_fault is w level ≡ none
+  over-fault : (is : Items Place) → is ≡ no_item → items_fault is w level ≡ None
   unfolding items_fault
   over-fault is e = ap (λ t. items_fault t w level) e
 
@@ -111,8 +117,8 @@ module _ {n : SettingNumbers} {x : Source} {c : Container} {level : Level} where
   -- ---- a turn over elements
 
   module _ {at low : ℕ} (g : Going n x c level at low)
-      {h : Head} (is : h ≡ element_head x at c.end c.unstated low) (inside : Inside at c.end h) where
-    ends : (r : Shape) → Stays c.from c.end r
+      {h : Answer Head Refusal} (is : h ≡ element_head x at c.end c.unstated low) (inside : Inside at c.end h) where
+    ends : (r : Answer ℕ Fault) → Stays c.from c.end r
         → ((i : Told n) (j : ℕ) (es : Elements Place) (past : ℕ) → c.end - at ≤ j
         → elements_at (suc j) x at c.end c.unstated c.depth low ≡ good es past
         → r ≡ judged (first_fault es i.0 level) past)
@@ -122,52 +128,52 @@ module _ {n : SettingNumbers} {x : Source} {c : Container} {level : Level} where
       right = λ w has. trace-stop g.trace (λ v past. r ≡ judged v past) f (w, has);
     }
 
-    pub stop-bad : (number : ℕ) → h ≡ Bad number → ElementsJudged n x c level (Fault number at)
-    stop-bad number e = ends (Fault number at) tt (λ i j es past lt found.
-        absurd (was-bad x at c.end c.unstated c.depth low j es past found number (sym e ∙ is)))
+    pub stop-bad : (f : Fault) → h ≡ Err f.refusal → ElementsJudged n x c level (Err f)
+    stop-bad f e = ends (Err f) tt (λ i j es past lt found.
+        absurd (was-bad x at c.end c.unstated c.depth low j es past found f.refusal (sym e ∙ is)))
 
-    pub stop-end : (p : ℕ) → h ≡ End p → ElementsJudged n x c level (Fine p)
-    stop-end p e = let v : Inside at c.end (End p) = rw e at inside in
-        ends (Fine p) (omega (arith, g.ge)) (λ i j es past lt found.
+    pub stop-end : (p : ℕ) → h ≡ Ok (End p) → ElementsJudged n x c level (Ok p)
+    stop-end p e = let v : Inside at c.end (Ok (End p)) = rw e at inside in
+        ends (Ok p) (omega (arith, g.ge)) (λ i j es past lt found.
         let y = was-end x at c.end c.unstated c.depth low j es past found p (sym e ∙ is) in
-        ap Fine y.1 ∙ ap (λ v. judged v past) (sym (nil-fault i.0 level es y.0)))
+        ap Ok y.1 ∙ ap (λ v. judged v past) (sym (nil-fault i.0 level es y.0)))
 
-    module _ {tag vr body p : ℕ} (e : h ≡ Plain tag vr body p) {f : ℕ} (q : ElementJudged n level tag vr x body p f) where
-      pub stop-plain : (f ≡ 0 → ⊥) → ElementsJudged n x c level (Fault f at)
-      stop-plain ne = ends (Fault f at) tt (λ i j es past lt found.
+    module _ {tag vr body p : ℕ} (e : h ≡ Ok (Plain tag vr body p)) {f : Answer (Unit {0}) Refusal} (q : ElementJudged n level tag vr (part x.bytes body p) f) where
+      pub stop-plain : (z : Fault) → f ≡ Err z.refusal → z.offset ≡ at → ElementsJudged n x c level (Err z)
+      stop-plain z er here = ends (Err z) tt (λ i j es past lt found.
           let y = was-plain x at c.end c.unstated c.depth low j es past found tag vr body p (sym e ∙ is) in
-          let rest : Option FirstFault = first_fault y.0 i.0 level in
-          judged-at f at rest past ne ∙ ap (λ number. judged (first (fault_at number at) rest) past) (q.right i.0 i.1)
+          let rest : Option Fault = first_fault y.0 i.0 level in
+          judged-at (value_fault i.0 (fate i.0 level tag vr) vr (part x.bytes body p)) z at rest past (sym er ∙ q.right i.0 i.1) here
           ∙ ap (λ v. judged v past) (sym (plain-fault i.0 level at body p tag vr (part x.bytes body p) es y.0 y.2)))
 
-      pub go-plain : f ≡ 0 → Going n x c level p (tag + 1)
-      go-plain fine = let v : Inside at c.end (Plain tag vr body p) = rw e at inside in record {
+      pub go-plain : f ≡ Ok tt → Going n x c level p (tag + 1)
+      go-plain fine = let v : Inside at c.end (Ok (Plain tag vr body p)) = rw e at inside in record {
         ge = omega (arith, g.ge);
         le = v.2;
         trace = trace-turn g.trace (p, tag + 1) (omega arith) (λ i j es past lt found.
             let y = was-plain x at c.end c.unstated c.depth low j es past found tag vr body p (sym e ∙ is) in
-            let rest : Option FirstFault = first_fault y.0 i.0 level in (
+            let rest : Option Fault = first_fault y.0 i.0 level in (
               y.0,
               y.1,
               plain-fault i.0 level at body p tag vr (part x.bytes body p) es y.0 y.2
-                  ∙ ap (λ number. first (fault_at number at) rest) (sym (q.right i.0 i.1) ∙ fine),
+                  ∙ ap (λ v. first (fault_at v at) rest) (not-refused _ (sym fine ∙ q.right i.0 i.1)),
             ));
       }
 
-    module _ {tag body last : ℕ} {m : Bool} (e : h ≡ Seq tag body last m) {r : Shape}
+    module _ {tag body last : ℕ} {m : Bool} (e : h ≡ Ok (Seq tag body last m)) {r : Answer ℕ Fault}
         (q : SequenceJudged n x (container body last m c.depth) level tag r) where
-      pub stop-seq : (number offset : ℕ) → r ≡ Fault number offset → ElementsJudged n x c level (Fault number offset)
-      stop-seq number offset er = let v : Inside at c.end (Seq tag body last m) = rw e at inside in
-          ends (Fault number offset) tt (λ i j es past lt found.
+      pub stop-seq : (z : Fault) → r ≡ Err z → ElementsJudged n x c level (Err z)
+      stop-seq z er = let v : Inside at c.end (Ok (Seq tag body last m)) = rw e at inside in
+          ends (Err z) tt (λ i j es past lt found.
           let y = was-seq x at c.end c.unstated c.depth low j es past found tag body last m (sym e ∙ is) in
-          judged-first (field_fault (items y.0) i.0 level (fate i.0 level tag SQ) SQ at) (first_fault y.2 i.0 level) number offset y.1 past
+          judged-first (field_fault (items y.0) i.0 level (fate i.0 level tag SQ) SQ at) (first_fault y.2 i.0 level) z y.1 past
           (sym er ∙ q.right i.0 i.1 j y.0 y.1 (omega arith) y.3 at)
           ∙ ap (λ v. judged v past) (sym (seq-fault i.0 level at body y.1 tag y.0 es y.2 y.5)))
 
-      pub go-seq : (p : ℕ) → r ≡ Fine p → Going n x c level p (tag + 1)
+      pub go-seq : (p : ℕ) → r ≡ Ok p → Going n x c level p (tag + 1)
       go-seq p er =
-          let v : Inside at c.end (Seq tag body last m) = rw e at inside in
-          let st : Stays body last (Fine p) = rw er at q.stays in record {
+          let v : Inside at c.end (Ok (Seq tag body last m)) = rw e at inside in
+          let st : Stays body last (Ok p) = rw er at q.stays in record {
             ge = omega (arith, g.ge);
             le = omega arith;
             trace = trace-turn g.trace (p, tag + 1) (omega arith) (λ i j es past lt found.
@@ -184,8 +190,8 @@ module _ {n : SettingNumbers} {x : Source} {c : Container} {level : Level} where
   -- ---- a turn over items
 
   module _ {at : ℕ} (g : GoingItems n x c level at)
-      {h : Spot} (is : h ≡ item_head x.bytes at c.end c.unstated c.depth) (within : Within at c.end c.depth h) where
-    ends-items : (r : Shape) → Stays c.from c.end r
+      {h : Answer Spot Refusal} (is : h ≡ item_head x.bytes at c.end c.unstated c.depth) (within : Within at c.end c.depth h) where
+    ends-items : (r : Answer ℕ Fault) → Stays c.from c.end r
         → ((i : Told n) (j : ℕ) (is : Items Place) (past : ℕ) → c.end - at ≤ j
         → items_at (suc j) x at c.end c.unstated c.depth ≡ good is past
         → r ≡ judged (items_fault is i.0 level) past)
@@ -195,30 +201,30 @@ module _ {n : SettingNumbers} {x : Source} {c : Container} {level : Level} where
       right = λ w has. trace-stop g.trace (λ v past. r ≡ judged v past) f (w, has);
     }
 
-    pub stop-wrong : (number : ℕ) → h ≡ Wrong number → ItemsJudged n x c level (Fault number at)
-    stop-wrong number e = ends-items (Fault number at) tt (λ i j is' past lt found.
-        absurd (was-wrong x at c.end c.unstated c.depth j is' past found number (sym e ∙ is)))
+    pub stop-wrong : (f : Fault) → h ≡ Err f.refusal → ItemsJudged n x c level (Err f)
+    stop-wrong f e = ends-items (Err f) tt (λ i j is' past lt found.
+        absurd (was-wrong x at c.end c.unstated c.depth j is' past found f.refusal (sym e ∙ is)))
 
-    pub stop-over : (p : ℕ) → h ≡ Over p → ItemsJudged n x c level (Fine p)
-    stop-over p e = let v : Within at c.end c.depth (Over p) = rw e at within in
-        ends-items (Fine p) (omega (arith, g.ge)) (λ i j is' past lt found.
+    pub stop-over : (p : ℕ) → h ≡ Ok (Over p) → ItemsJudged n x c level (Ok p)
+    stop-over p e = let v : Within at c.end c.depth (Ok (Over p)) = rw e at within in
+        ends-items (Ok p) (omega (arith, g.ge)) (λ i j is' past lt found.
         let y = was-over x at c.end c.unstated c.depth j is' past found p (sym e ∙ is) in
-        ap Fine y.1 ∙ ap (λ v. judged v past) (sym (over-fault i.0 level is' y.0)))
+        ap Ok y.1 ∙ ap (λ v. judged v past) (sym (over-fault i.0 level is' y.0)))
 
-    module _ {body last : ℕ} {m : Bool} (e : h ≡ Item body last m) {r : Shape}
+    module _ {body last : ℕ} {m : Bool} (e : h ≡ Ok (Item body last m)) {r : Answer ℕ Fault}
         (q : ElementsJudged n x (container body last m (c.depth - 1)) level r) where
-      pub stop-item : (number offset : ℕ) → r ≡ Fault number offset → ItemsJudged n x c level (Fault number offset)
-      stop-item number offset er = let v : Within at c.end c.depth (Item body last m) = rw e at within in
-          ends-items (Fault number offset) tt (λ i j is' past lt found.
+      pub stop-item : (z : Fault) → r ≡ Err z → ItemsJudged n x c level (Err z)
+      stop-item z er = let v : Within at c.end c.depth (Ok (Item body last m)) = rw e at within in
+          ends-items (Err z) tt (λ i j is' past lt found.
           let y = was-item x at c.end c.unstated c.depth j is' past found body last m (sym e ∙ is) in
-          judged-first (first_fault y.0 i.0 level) (items_fault y.2 i.0 level) number offset y.1 past
+          judged-first (first_fault y.0 i.0 level) (items_fault y.2 i.0 level) z y.1 past
           (sym er ∙ q.right i.0 i.1 j y.0 y.1 (omega arith) y.3)
           ∙ ap (λ v. judged v past) (sym (item-fault i.0 level y.0 is' y.2 y.5)))
 
-      pub go-item : (p : ℕ) → r ≡ Fine p → GoingItems n x c level p
+      pub go-item : (p : ℕ) → r ≡ Ok p → GoingItems n x c level p
       go-item p er =
-          let v : Within at c.end c.depth (Item body last m) = rw e at within in
-          let st : Stays body last (Fine p) = rw er at q.stays in record {
+          let v : Within at c.end c.depth (Ok (Item body last m)) = rw e at within in
+          let st : Stays body last (Ok p) = rw er at q.stays in record {
             ge = omega (arith, g.ge);
             le = omega arith;
             trace = trace-turn g.trace p (omega arith) (λ i j is' past lt found.
@@ -236,14 +242,14 @@ module _ {n : SettingNumbers} {x : Source} {c : Container} {level : Level} where
 
 module _ {n : SettingNumbers} {x : Source} {c : Container} {level : Level} {tag : ℕ} {φ : Fate} (is : φ ≡ fate_of n.options level tag SQ)
     {b : Bool} (into : b ≡ walks_into φ) where
-  pub goes-in : b ≡ true → {inner : Level} → inner ≡ below φ level → {r : Shape} → ItemsJudged n x c inner r → SequenceJudged n x c level tag r
+  pub goes-in : b ≡ true → {inner : Level} → inner ≡ below φ level → {r : Answer ℕ Fault} → ItemsJudged n x c inner r → SequenceJudged n x c level tag r
   unfolding field_fault
   goes-in t under q = record {
     stays = q.stays;
     right = λ w has k is' past lt found offset. rw (given-fate has level tag SQ is, ← into, t, ← under) (q.right w has k is' past lt found);
   }
 
-  pub passes : b ≡ false → {r : Shape} → WalkedItems x c r → SequenceJudged n x c level tag r
+  pub passes : b ≡ false → {r : Answer ℕ Fault} → WalkedItems x c r → SequenceJudged n x c level tag r
   unfolding field_fault
   passes t q = record {
     stays = q.stays;
@@ -252,6 +258,6 @@ module _ {n : SettingNumbers} {x : Source} {c : Container} {level : Level} {tag 
 
 -- ---- the whole data set
 
-pub whole : {n : SettingNumbers} {x : Source} {r : Shape} → ElementsJudged n x (container 0 (length x.bytes) false deepest) Top r → WholeJudged n x r
+pub whole : {n : SettingNumbers} {x : Source} {r : Answer ℕ Fault} → ElementsJudged n x (container 0 (length x.bytes) false deepest) Top r → WholeJudged n x r
 unfolding read
 whole {x = x} q = record { right = λ w has es past found. q.right w has (suc (length x.bytes)) es past (omega arith) found }

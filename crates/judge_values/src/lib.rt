@@ -7,161 +7,150 @@
 
 ghost use Rattle.std.specs.Prelude.{◌≡◌, ◌≤◌, length};
 ghost use Rattle.layout.specs.Source.{explicitly};
+ghost use Rattle.layout.specs.Walks.{Lies};
 ghost use Rattle.table.specs.Rows.{table};
 ghost use Rattle.judge_values.specs.Judged.{ValueJudged, ElementJudged, ElementsJudged, SequenceJudged, ItemsJudged, WholeJudged};
 
-use layout::{Container, Head, Shape, Spot};
-use treatment::{Fate, Level, SettingNumbers};
+use layout::{Container, Head, Spot};
+use refusals::{Fault, Refusal};
+use treatment::{Fate, Level, Rules, SettingNumbers};
 
-// The number of the fault of a value from `body` up to `past`, or 0.
-fn value_fault(n: SettingNumbers, fate: Fate, vr: u64, s: &[u8], body: usize, past: usize) -> u8
-    requires { (body ≤ past) × (past ≤ length s.now) }
-    ensures { ValueJudged n fate vr (explicitly s.now) body past result }
+// The value of an element with this fate: it is refused, or not.
+fn check_value(n: SettingNumbers, fate: Fate, vr: u64, value: &[u8]) -> Result<(), Refusal>
+    ensures { ValueJudged n fate vr value.now result }
 {
     match fate {
-        Fate::Removed => 0,
-        Fate::Kept => 0,
-        Fate::Walked => 0,
-        Fate::Emptied => 0,
-        Fate::Dummied => 0,
         Fate::Renamed => {
-            if uid::uids_fault(s, body, past) {
-                return refusals::BAD_UIDS;
+            if uid::uids_fault(value) {
+                return Err(Refusal::BadUids);
             }
-            0
+            Ok(())
         }
         Fate::Shifted => {
-            if calendar::date_fault(vr == vr::DA, s, body, past, n.days) {
-                return refusals::BAD_DATES;
+            if calendar::date_fault(vr == vr::DA, value, n.days) {
+                return Err(Refusal::BadDates);
             }
-            0
+            Ok(())
         }
-        Fate::Wrong => refusals::BAD_UIDS,
+        Fate::Wrong => Err(Refusal::BadUids),
+        Fate::Removed | Fate::Kept | Fate::Walked | Fate::Emptied | Fate::Dummied => Ok(()),
     }
 }
 
 // The same of the element that has the value.
-fn element_fault(
-    rows: &[u64],
-    n: SettingNumbers,
+fn check_element(
+    rules: Rules<'_>,
     level: Level,
     tag: u64,
     vr: u64,
-    s: &[u8],
-    body: usize,
-    past: usize,
-) -> u8
-    requires { (rows.now ≡ table) × (body ≤ past) × (past ≤ length s.now) }
-    ensures { ElementJudged n level tag vr (explicitly s.now) body past result }
+    value: &[u8],
+) -> Result<(), Refusal>
+    ensures { ElementJudged rules.entry.numbers level tag vr value.now result }
 {
-    let fate = treatment::fate_of(rows, n.options, level, tag, vr);
-    value_fault(n, fate, vr, s, body, past)
+    check_value(rules.numbers, rules.fate_of(level, tag, vr), vr, value)
 }
 
-// The elements of a container.
+// The elements of a container: the place past them, or the first fault.
 #[cycle(elements_items_sequence)]
-fn elements(rows: &[u64], n: SettingNumbers, s: &[u8], c: Container, level: Level) -> Shape
-    requires { (rows.now ≡ table) × (c.from ≤ c.end) × (c.end ≤ length s.now) }
-    ensures { ElementsJudged n (explicitly s.now) c level result }
+fn elements(rules: Rules<'_>, s: &[u8], c: Container, level: Level) -> Result<usize, Fault>
+    requires { Lies c s.now }
+    ensures { ElementsJudged rules.entry.numbers (explicitly s.now) c level result }
 {
     let mut at = c.from;
     let mut low: u64 = 0;
     loop {
-        let h = layout::element_head(s, at, c.end, c.unstated, low);
-        match h {
-            Head::Bad(number) => return Shape::Fault(number, at),
-            Head::End(past) => return Shape::Fine(past),
-            Head::Plain(tag, vr, body, past) => {
-                let f = element_fault(rows, n, level, tag, vr, s, body, past);
-                if f != 0 {
-                    return Shape::Fault(f, at);
-                }
-                at = past;
-                low = tag + 1;
+        let head = layout::located(layout::element_head(s, at, c.end, c.unstated, low), at)?;
+        let (tag, past) = match head {
+            Head::End(past) => return Ok(past),
+            Head::Plain {
+                tag,
+                vr,
+                body,
+                past,
+            } => {
+                layout::located(check_element(rules, level, tag, vr, &s[body..past]), at)?;
+                (tag, past)
             }
-            Head::Seq(tag, body, stop, m) => {
+            Head::Seq {
+                tag,
+                body,
+                stop,
+                unstated,
+            } => {
                 let held = Container {
                     from: body,
                     end: stop,
-                    unstated: m,
-                    depth: c.depth,
+                    unstated,
+                    ..c
                 };
-                let q = sequence(rows, n, s, held, level, tag);
-                match q {
-                    Shape::Fault(number, offset) => return Shape::Fault(number, offset),
-                    Shape::Fine(past) => {
-                        at = past;
-                        low = tag + 1;
-                    }
-                }
+                (tag, sequence(rules, s, held, level, tag)?)
             }
-        }
+        };
+        at = past;
+        low = tag + 1;
     }
 }
 
 // The sequence `tag` of this level: its items are judged where it is walked into, else they are passed over.
 #[cycle(elements_items_sequence)]
 fn sequence(
-    rows: &[u64],
-    n: SettingNumbers,
+    rules: Rules<'_>,
     s: &[u8],
     c: Container,
     level: Level,
     tag: u64,
-) -> Shape
-    requires { (rows.now ≡ table) × (c.from ≤ c.end) × (c.end ≤ length s.now) }
-    ensures { SequenceJudged n (explicitly s.now) c level tag result }
+) -> Result<usize, Fault>
+    requires { Lies c s.now }
+    ensures { SequenceJudged rules.entry.numbers (explicitly s.now) c level tag result }
 {
-    let fate = treatment::fate_of(rows, n.options, level, tag, vr::SQ);
+    let fate = rules.fate_of(level, tag, vr::SQ);
     if treatment::walks_into(fate) {
         let inner = treatment::below(fate, level);
-        return items(rows, n, s, c, inner);
+        return items(rules, s, c, inner);
     }
     layout::sequence(s, c)
 }
 
 // The items of a sequence; `level` is that of what stands in them.
 #[cycle(elements_items_sequence)]
-fn items(rows: &[u64], n: SettingNumbers, s: &[u8], c: Container, level: Level) -> Shape
-    requires { (rows.now ≡ table) × (c.from ≤ c.end) × (c.end ≤ length s.now) }
-    ensures { ItemsJudged n (explicitly s.now) c level result }
+fn items(rules: Rules<'_>, s: &[u8], c: Container, level: Level) -> Result<usize, Fault>
+    requires { Lies c s.now }
+    ensures { ItemsJudged rules.entry.numbers (explicitly s.now) c level result }
 {
     let mut at = c.from;
     loop {
-        let h = layout::item_head(s, at, c.end, c.unstated, c.depth);
-        match h {
-            Spot::Wrong(number) => return Shape::Fault(number, at),
-            Spot::Over(past) => return Shape::Fine(past),
-            Spot::Item(body, stop, m) => {
-                let depth = c.depth - 1;
+        let spot = layout::located(layout::item_head(s, at, c.end, c.unstated, c.depth), at)?;
+        match spot {
+            Spot::Over(past) => return Ok(past),
+            Spot::Item {
+                body,
+                stop,
+                unstated,
+            } => {
                 let held = Container {
                     from: body,
                     end: stop,
-                    unstated: m,
-                    depth: depth,
+                    unstated,
+                    depth: c.depth - 1,
                 };
-                let q = elements(rows, n, s, held, level);
-                match q {
-                    Shape::Fault(number, offset) => return Shape::Fault(number, offset),
-                    Shape::Fine(past) => {
-                        at = past;
-                    }
-                }
+                at = elements(rules, s, held, level)?;
             }
         }
     }
 }
 
-// The first fault among the values of a data set that has its shape, or none. The caller lends the table that `table::rows` makes.
-pub fn first_fault(rows: &[u64], n: SettingNumbers, s: &[u8]) -> Shape
+// The first fault among the values of a data set that has its shape, or the place past the data set. The caller lends the table that
+// `table::rows` makes.
+pub fn first_fault(rows: &[u64], n: SettingNumbers, s: &[u8]) -> Result<usize, Fault>
     requires { rows.now ≡ table }
     ensures { WholeJudged n (explicitly s.now) result }
 {
+    let rules = Rules { rows, numbers: n };
     let whole = Container {
         from: 0,
         end: s.len(),
         unstated: false,
         depth: layout::DEEPEST,
     };
-    elements(rows, n, s, whole, Level::Top)
+    elements(rules, s, whole, Level::Top)
 }

@@ -5,11 +5,14 @@ use mathlib.Core.Path.{◌≡◌, refl}
 use mathlib.Core.Logic.{◌⊎◌, inl, inr}
 use mathlib.Core.Bool.{Bool, true, false}
 use mathlib.Core.List.{List}
-use mathlib.Core.Option.{Option, none, some}
+use Rattle.std.specs.Prelude.{Option, None, Some}
 use Prim.Native.Nat.{ℕ}
 use lib.Dec.{eqb}
 use Rattle.basis.specs.Choice.{pick, is_none}
 use Rattle.basis.proofs.ChoiceLaws.{pick-case}
+use Rattle.refusals.specs.Refusals.{number}
+use Rattle.refusals.specs.declared.Refusal.TheVariants.{BadUids, BadDates}
+use Rattle.refusals.specs.declared.Fault.{Fault}
 use Rattle.vr.specs.Names.{DA}
 use Rattle.layout.specs.Tree.{Field, value, items, Elements, nil, elem, Items, none as no_item, item, Place}
 use Rattle.uid.specs.Value.{uids_fault}
@@ -19,19 +22,19 @@ use Rattle.treatment.specs.Fates.{fate, walks_into, below}
 use Rattle.treatment.specs.declared.Level.{Level}
 use Rattle.treatment.specs.declared.Fate.{Fate}
 use Rattle.treatment.specs.declared.Fate.TheVariants.{Removed, Kept, Walked, Emptied, Dummied, Renamed, Shifted, Wrong}
-use Rattle.kept.specs.Faults.{Fault, value_fault, at, first, sequence_fault, field_fault, first_fault, items_fault}
+use Rattle.kept.specs.Faults.{value_fault, at, first, sequence_fault, field_fault, first_fault, items_fault}
 
 abbrev pub Eleven : Option Fault → Type 0
-Eleven none = Unit {0}
-Eleven (some f) = (f.number ≡ 11) ⊎ (f.number ≡ 12)
+Eleven None = Unit {0}
+Eleven (Some f) = (number f.refusal ≡ 11) ⊎ (number f.refusal ≡ 12)
 
 -- ---- value_fault
 
-if-fault : (b : Bool) (offset : ℕ) → Eleven (at (pick b 11 0) offset)
+if-fault : (b : Bool) (offset : ℕ) → Eleven (at (pick b (Some BadUids) None) offset)
 if-fault true offset = inl refl
 if-fault false offset = tt
 
-if-date : (b : Bool) (offset : ℕ) → Eleven (at (pick b 12 0) offset)
+if-date : (b : Bool) (offset : ℕ) → Eleven (at (pick b (Some BadDates) None) offset)
 if-date true offset = inr refl
 if-date false offset = tt
 
@@ -48,11 +51,11 @@ value-eleven s Wrong vr v offset = inl refl
 -- ---- first_fault
 
 first-eleven : (x y : Option Fault) → Eleven x → Eleven y → Eleven (first x y)
-first-eleven none y p q = q
-first-eleven (some f) y p q = p
+first-eleven None y p q = q
+first-eleven (Some f) y p q = p
 
 sequence-eleven : (x : Option Fault) (φ : Fate) → Eleven x → Eleven (sequence_fault x φ)
-sequence-eleven x φ p = pick-case Eleven (walks_into φ) x none (λ _. p) (λ _. tt)
+sequence-eleven x φ p = pick-case Eleven (walks_into φ) x None (λ _. p) (λ _. tt)
 
 mutual
   unfolding field_fault first_fault items_fault

@@ -10,7 +10,8 @@ use mathlib.Core.Path.{◌≡◌, refl, ap, ◌∙◌}
 use mathlib.Core.Logic.{◌≢◌, ◌⊎◌, inl, inr, ⊎_elim}
 use mathlib.Core.Bool.{Bool, true, false}
 use mathlib.Core.List.{List, [], ◌∷◌, ◌++◌}
-use mathlib.Core.Option.{Option, none, some, none-ne-some}
+use Rattle.std.specs.Prelude.{Option, None, Some}
+use Rattle.std.proofs.lemmas.Option.{none-some}
 use Prim.Native.Nat.{ℕ, ◌+◌, ◌%◌, ◌≤◌, ◌<◌}
 use native.Mathlib.Omega.{arith}
 use lib.Dec.{eqb}
@@ -47,11 +48,11 @@ spaced-length t =
 
 -- ---- lengths_below, of `layout`
 
-kind_of-value : (vr : ℕ) → among vr all_vrs ≡ true → vr ≢ SQ → (kind_of vr ≡ Long) ⊎ (kind_of vr ≡ Short)
+kind_of-value : (vr : ℕ) → among vr all_vrs ≡ true → vr ≢ SQ → (kind_of vr ≡ Some Long) ⊎ (kind_of vr ≡ Some Short)
 unfolding kind_of
 kind_of-value vr is n = rw (ne_eqb vr SQ n, is) (step (among vr long))
   where
-    step : (b : Bool) → (pick b Long Short ≡ Long) ⊎ (pick b Long Short ≡ Short)
+    step : (b : Bool) → (pick b (Some Long) (Some Short) ≡ Some Long) ⊎ (pick b (Some Long) (Some Short) ≡ Some Short)
     step true = inl refl
     step false = inr refl
 
@@ -61,7 +62,7 @@ lengths_below-value vr is n = ⊎_elim (λ e. rw (lengths_below-long vr e) (omeg
 pub lengths_below-known : (vr n : ℕ) → n < lengths_below vr → among vr all_vrs ≡ true
 lengths_below-known vr n h = kind_of-all_vrs vr (λ e. let z : n < 0 = rw (lengths_below-unknown vr e) at h in omega arith)
 
-sq-sequence : kind_of SQ ≡ Sequence
+sq-sequence : kind_of SQ ≡ Some Sequence
 unfolding kind_of
 sq-sequence = refl
 
@@ -70,17 +71,17 @@ lengths_below-other vr n h e = let z : n < 0 = rw (ap lengths_below e ∙ length
 
 -- ---- listed
 
-pub listed-length : (s : Settings) (tag vr : ℕ) (v : List ℕ) → listed s tag vr ≡ some v → length v ≤ most_value
+pub listed-length : (s : Settings) (tag vr : ℕ) (v : List ℕ) → listed s tag vr ≡ Some v → length v ≤ most_value
 unfolding listed
 listed-length s tag vr v e = step (served_by_lists vr) e
   where
-    step : (b : Bool) → pick b (asked s.study s.site tag) none ≡ some v → length v ≤ most_value
+    step : (b : Bool) → pick b (asked s.study s.site tag) None ≡ Some v → length v ≤ most_value
     step true e = (asked-length s.study s.site tag v e).1
-    step false e = absurd (none-ne-some v e)
+    step false e = absurd (none-some v e)
 
-or-length : (o : Option (List ℕ)) (t : List ℕ) (n : ℕ) → ((v : List ℕ) → o ≡ some v → length v ≤ n) → length t ≤ n → length (or o t) ≤ n
-or-length none t n f h = h
-or-length (some v) t n f h = f v refl
+or-length : (o : Option (List ℕ)) (t : List ℕ) (n : ℕ) → ((v : List ℕ) → o ≡ Some v → length v ≤ n) → length t ≤ n → length (or o t) ≤ n
+or-length None t n f h = h
+or-length (Some v) t n f h = f v refl
 
 -- ---- emptied_as, dummied_as
 
@@ -100,4 +101,4 @@ module _ (s : Settings) (tag vr depth : ℕ) (is : among vr all_vrs ≡ true) wh
   dummied_as-made pos =
       pick-case (MadeField depth vr) (eqb vr SQ) (items (item nil no_item)) (value (spaced (or (listed s tag vr) (dummy_of vr)))) (λ e. (eqb-true vr SQ e, (pos, tt, tt)))
       (λ e. value-made depth vr (or (listed s tag vr) (dummy_of vr)) is (eqb-false vr SQ e)
-      (or-length (listed s tag vr) (dummy_of vr) most_value (listed-length s tag vr) (omega (arith, dummy_of-short vr is))))
+      (or-length (listed s tag vr) (dummy_of vr) most_value (listed-length s tag vr) (omega (arith, dummy_of-short vr))))

@@ -7,13 +7,16 @@ use mathlib.Core.Path.{◌≡◌, refl, ap, sym}
 use mathlib.Core.Logic.{⊎_elim}
 use mathlib.Core.Bool.{Bool, true, false, false≢true}
 use mathlib.Core.List.{List, ◌++◌}
-use mathlib.Core.Option.{Option, none, some, none-ne-some}
+use Rattle.std.specs.Prelude.{Option, None, Some}
+use Rattle.std.proofs.lemmas.Option.{none-some}
 use Prim.Native.Nat.{ℕ, zero, suc, ◌+◌, ◌-◌, ◌%◌, ◌≤◌, ◌<◌}
 use native.Mathlib.Omega.{arith}
 use lib.Dec.{eqb}
 use lib.ListN.{length}
 use Rattle.basis.specs.Choice.{pick, among, is_none}
-use Rattle.refusals.specs.Refusals.{bad_uids}
+use Rattle.refusals.specs.declared.Refusal.{Refusal}
+use Rattle.refusals.specs.declared.Refusal.TheVariants.{BadUids, BadDates}
+use Rattle.refusals.specs.declared.Fault.{Fault}
 use Rattle.vr.specs.Names.{DA, SQ}
 use Rattle.vr.specs.Vr.{all_vrs}
 use Rattle.layout.specs.Tree.{Field, value, items, Elements, nil, elem, Items, none as no_item, item, Place}
@@ -36,38 +39,38 @@ use Rattle.kept.specs.Content.{Body, Content, keep, Walks, uids_in_body, uids_in
 use Rattle.kept.specs.Kept.{Uid, or_none, held_uids, kept_value, kept_sequence, entry, kept_field, kept_of, kept_items}
 use Rattle.kept.specs.Numbering.{numbered_body, numbered, numbered_walks}
 use Rattle.kept.specs.Written.{written}
-use Rattle.kept.specs.Faults.{Fault, value_fault, at as fault_at, first, sequence_fault, field_fault, first_fault, items_fault}
+use Rattle.kept.specs.Faults.{value_fault, at as fault_at, first, sequence_fault, field_fault, first_fault, items_fault}
 use Rattle.treatment.proofs.FatesLaws.{fate-walked, fate-renamed, fate-shifted, fate-kept, fate-wrong}
 use Rattle.kept.proofs.FillersLaws.{lengths_below-known, lengths_below-other}
 use Rattle.kept.proofs.WrittenLaws.{NumberedBody, Numbered, NumberedWalks, numbered-lower, written-inj}
 
 -- ---- what no fault says
 
-pub first-none : (x y : Option Fault) → first x y ≡ none → (x ≡ none) × (y ≡ none)
-first-none none y e = (refl, e)
-first-none (some x) y e = absurd (none-ne-some x (sym e))
+pub first-none : (x y : Option Fault) → first x y ≡ None → (x ≡ None) × (y ≡ None)
+first-none None y e = (refl, e)
+first-none (Some x) y e = absurd (none-some x (sym e))
 
-pub at-none : (n offset : ℕ) → fault_at n offset ≡ none → n ≡ 0
-at-none zero offset e = refl
-at-none (suc n) offset e = absurd (none-ne-some _ (sym e))
+pub at-none : (r : Option Refusal) (offset : ℕ) → fault_at r offset ≡ None → r ≡ None
+at-none None offset e = refl
+at-none (Some r) offset e = absurd (none-some _ (sym e))
 
-pub unpicked : (b : Bool) (n : ℕ) → 0 < n → pick b n 0 ≡ 0 → b ≡ false
-unpicked true n h e = absurd (omega arith)
-unpicked false n h e = refl
+pub unpicked : (b : Bool) (r : Refusal) → pick b (Some r) None ≡ None → b ≡ false
+unpicked true r e = absurd (none-some r (sym e))
+unpicked false r e = refl
 
-renamed-few : (s : Settings) (vr : ℕ) (v : List ℕ) → value_fault s Renamed vr v ≡ 0 → length (held_uids v) ≤ most_uids
+renamed-few : (s : Settings) (vr : ℕ) (v : List ℕ) → value_fault s Renamed vr v ≡ None → length (held_uids v) ≤ most_uids
 renamed-few s vr v e =
-    let r = uids_of-found v (unpicked (uids_fault v) bad_uids (omega arith) e) in
+    let r = uids_of-found v (unpicked (uids_fault v) BadUids e) in
     let q : held_uids v ≡ r.0 = ap or_none r.1 in
     rw q (uids_of-are v r.0 r.1).few
 
-not-refused : (o : Option (List ℕ)) → is_none o ≡ false → (x : List ℕ) × (o ≡ some x)
-not-refused none e = absurd (false≢true (sym e))
-not-refused (some x) e = (x, refl)
+not-refused : (o : Option (List ℕ)) → is_none o ≡ false → (x : List ℕ) × (o ≡ Some x)
+not-refused None e = absurd (false≢true (sym e))
+not-refused (Some x) e = (x, refl)
 
-shifted-good : (s : Settings) (vr : ℕ) (v : List ℕ) → value_fault s Shifted vr v ≡ 0 → (x : List ℕ) × (shifted_value (eqb vr DA) s.shift v ≡ some x)
+shifted-good : (s : Settings) (vr : ℕ) (v : List ℕ) → value_fault s Shifted vr v ≡ None → (x : List ℕ) × (shifted_value (eqb vr DA) s.shift v ≡ Some x)
 shifted-good s vr v e =
-    not-refused (shifted_value (eqb vr DA) s.shift v) (unpicked (is_none (shifted_value (eqb vr DA) s.shift v)) 12 (omega arith) e)
+    not-refused (shifted_value (eqb vr DA) s.shift v) (unpicked (is_none (shifted_value (eqb vr DA) s.shift v)) BadDates e)
 
 -- ---- entries
 
@@ -96,7 +99,7 @@ module _ (same : Discrete Uid) where
       (omega (arith, r, learns-length same (learns same l us) ws), r)
 
   module _ (s : Settings) (level : Level) (depth tag vr : ℕ) (l : List Uid) where
-    value-fits : (v : List ℕ) (φ : Fate) → fate s level tag vr ≡ φ → Stays φ → length v % 2 ≡ 0 → length v < lengths_below vr → value_fault s φ vr v ≡ 0
+    value-fits : (v : List ℕ) (φ : Fate) → fate s level tag vr ≡ φ → Stays φ → length v % 2 ≡ 0 → length v < lengths_below vr → value_fault s φ vr v ≡ None
         → Room l (uids_in_body (kept_value v φ)) → NumberedBody (numbered_body same l (kept_value v φ)) s level depth tag vr
     unfolding Numbered numbered uids_in
     value-fits v Removed e p even fits ok r = absurd p
@@ -107,10 +110,10 @@ module _ (same : Discrete Uid) where
     value-fits v Renamed e p even fits ok r =
         (e, omega (arith, numbers-length same l (held_uids v), renamed-few s vr v ok), λ n m. omega (arith, r, numbers-le same l (held_uids v) n m))
     value-fits v Shifted e p even fits ok r = (rw e (shifted-good s vr v ok), even, fits)
-    value-fits v Wrong e p even fits ok r = absurd (omega arith)
+    value-fits v Wrong e p even fits ok r = absurd (none-some BadUids (sym ok))
 
     sequence-fits : (ws : Walks Uid) (x : Option Fault) (φ : Fate) → fate s level tag vr ≡ φ → Stays φ → vr ≡ SQ
-        → sequence_fault x φ ≡ none → (x ≡ none → Room l (uids_in_walks ws) → NumberedWalks (numbered_walks same l ws) s (below φ level) depth)
+        → sequence_fault x φ ≡ None → (x ≡ None → Room l (uids_in_walks ws) → NumberedWalks (numbered_walks same l ws) s (below φ level) depth)
         → Room l (uids_in_body (kept_sequence ws φ)) → NumberedBody (numbered_body same l (kept_sequence ws φ)) s level depth tag vr
     unfolding Numbered numbered uids_in
     sequence-fits ws x Removed e p q ok inside r = absurd p
@@ -146,7 +149,7 @@ module _ (same : Discrete Uid) where
     unfolding Numbered numbered uids_in kept_of Made first_fault
 
     field-numbered : (f : Field Place) (s : Settings) (level : Level) (depth tag vr offset : ℕ) (l : List Uid) → Stays (fate s level tag vr)
-        → MadeField depth vr f → field_fault f s level (fate s level tag vr) vr offset ≡ none
+        → MadeField depth vr f → field_fault f s level (fate s level tag vr) vr offset ≡ None
         → Room l (uids_in_body (kept_field f s level (fate s level tag vr)))
         → NumberedBody (numbered_body same l (kept_field f s level (fate s level tag vr))) s level depth tag vr
     field-numbered (value v) s level depth tag vr offset l p m ok r =
@@ -156,7 +159,7 @@ module _ (same : Discrete Uid) where
         (fate s level tag vr) refl p m.0 ok (λ fine q. items-numbered is s (below (fate s level tag vr) level) depth l m.1 fine q) r
 
     pub kept-numbered : (es : Elements Place) (s : Settings) (level : Level) (depth low : ℕ) (l : List Uid) → Made depth low es
-        → first_fault es s level ≡ none → length (learns same l (uids_in (kept_of es s level))) ≤ most_slots
+        → first_fault es s level ≡ None → length (learns same l (uids_in (kept_of es s level))) ≤ most_slots
         → Numbered (numbered same l (kept_of es s level)) s level depth low
     kept-numbered nil s level depth low l m ok r = tt
     kept-numbered (elem p tag vr f es) s level depth low l m ok r =
@@ -165,7 +168,7 @@ module _ (same : Discrete Uid) where
         (λ k q. kept-numbered es s level depth (tag + 1) k m.3 o.1 q) (fate s level tag vr) (λ φ. kept_field f s level φ)
         (λ stays q. field-numbered f s level depth tag vr p.at l stays m.2 o.0 q) r
 
-    items-numbered : (is : Items Place) (s : Settings) (level : Level) (depth : ℕ) (l : List Uid) → MadeItems depth is → items_fault is s level ≡ none
+    items-numbered : (is : Items Place) (s : Settings) (level : Level) (depth : ℕ) (l : List Uid) → MadeItems depth is → items_fault is s level ≡ None
         → Room l (uids_in_walks (kept_items is s level)) → NumberedWalks (numbered_walks same l (kept_items is s level)) s level depth
     items-numbered no_item s level depth l m ok r = tt
     items-numbered (item es is) s level depth l m ok r =
@@ -180,7 +183,7 @@ module _ (same : Discrete Uid) where
 
   -- THEOREM: what is written of two data sets that are accepted decides their kept contents, each name its number
   pub written-kept : (es fs : Elements Place) (s : Settings) (depth : ℕ) (l k : List Uid) → is_root s.root ≡ true → Made depth 0 es → Made depth 0 fs
-      → first_fault es s Top ≡ none → first_fault fs s Top ≡ none
+      → first_fault es s Top ≡ None → first_fault fs s Top ≡ None
       → length (learns same l (uids_in (kept_of es s Top))) ≤ most_slots → length (learns same k (uids_in (kept_of fs s Top))) ≤ most_slots
       → written s (numbered same l (kept_of es s Top)) ≡ written s (numbered same k (kept_of fs s Top))
       → numbered same l (kept_of es s Top) ≡ numbered same k (kept_of fs s Top)

@@ -7,7 +7,7 @@ use mathlib.Core.Path.{◌≡◌, refl, ap, ap₂, ◌∙◌}
 use mathlib.Core.Logic.{◌⊎◌, inl, inr}
 use mathlib.Core.Bool.{true, ◌&&◌, and-eq-true_iff}
 use mathlib.Core.List.{List, [], ◌∷◌, ◌++◌, map, Memᴰ}
-use mathlib.Core.Option.{Option, none, some}
+use Rattle.std.specs.Prelude.{Option, None, Some}
 use Prim.Native.Nat.{ℕ}
 use Rattle.basis.proofs.ChoiceLaws.{pick-case, every-append}
 use Rattle.basis.specs.Choice.{every}
@@ -38,8 +38,8 @@ unfolding every
 uids-in v = step (uids_of v) refl
   where
     step : (x : Option (List Uid)) → uids_of v ≡ x → every is_uid (or_none x) ≡ true
-    step none e = refl
-    step (some us) e = (uids_of-are v us e).uids
+    step None e = refl
+    step (Some us) e = (uids_of-are v us e).uids
 
 value-uids : (v : List ℕ) (φ : Fate) → every is_uid (uids_in_body (kept_value v φ)) ≡ true
 unfolding every uids_in_body

@@ -10,7 +10,7 @@
 use mathlib.Core.Path.{◌≡◌, refl, ap, ap₂, sym, ◌∙◌}
 use mathlib.Core.Bool.{true}
 use mathlib.Core.List.{List, map, Memᴰ}
-use mathlib.Core.Option.{some}
+use Rattle.std.specs.Prelude.{Some}
 use Prim.Native.Nat.{ℕ, ◌+◌, ◌-◌, ◌%◌, ◌≤◌, ◌<◌, ◌^◌}
 use native.Mathlib.Omega.{arith}
 use lib.Dec.{eqb}
@@ -60,7 +60,7 @@ ShownAt s Walked vr v = ⊥
 ShownAt s Emptied vr v = ⊥
 ShownAt s Dummied vr v = ⊥
 ShownAt s Renamed vr v = ⊥
-ShownAt s Shifted vr v = (x : List ℕ) × (shifted_value (eqb vr DA) s.shift v ≡ some x)
+ShownAt s Shifted vr v = (x : List ℕ) × (shifted_value (eqb vr DA) s.shift v ≡ Some x)
 ShownAt s Wrong vr v = ⊥
 
 abbrev pub BlankAt : Fate → Type 0
@@ -103,7 +103,7 @@ unfolding among
 ui-lengths_below = lengths_below-value UI refl (omega arith)
 
 module _ (s : Settings) (vr : ℕ) where
-  or-shifted : (v x : List ℕ) → shifted_value (eqb vr DA) s.shift v ≡ some x → shifted_as s vr v ≡ x
+  or-shifted : (v x : List ℕ) → shifted_value (eqb vr DA) s.shift v ≡ Some x → shifted_as s vr v ≡ x
   unfolding shifted_as
   or-shifted v x e = rw e
 
@@ -126,7 +126,7 @@ module _ (s : Settings) (vr : ℕ) where
   value_as-inj Renamed v w h k e = e
   value_as-inj Shifted v w h k e =
       let q : h.0 ≡ k.0 = sym (or-shifted v h.0 h.1) ∙ e ∙ or-shifted w k.0 k.1 in
-      shifted_value-inj (eqb vr DA) s.shift v w h.0 h.1 (k.1 ∙ ap some (sym q))
+      shifted_value-inj (eqb vr DA) s.shift v w h.0 h.1 (k.1 ∙ ap Some (sym q))
   value_as-inj Wrong v w h k e = e
 
   filler-made : (φ : Fate) (tag depth : ℕ) → BlankAt φ → among vr all_vrs ≡ true → 0 < depth → MadeField depth vr (filler s φ tag vr)

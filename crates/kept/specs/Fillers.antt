@@ -6,8 +6,7 @@
 --     emptied_as s tag vr    what an element holds after Z
 --     dummied_as s tag vr    what it holds after D
 --     filler s φ tag vr      what it holds after the fate φ
-use Rattle.std.specs.Prelude.{List, [], ◌∷◌, ◌++◌, ℕ, ◌%◌, eqb, length}
-use Rattle.std.proofs.Math.Option.{Option, none, some}
+use Rattle.std.specs.Prelude.{List, [], ◌∷◌, ◌++◌, ℕ, ◌%◌, eqb, length, Option, None, Some}
 use Rattle.basis.specs.Choice.{pick}
 use Rattle.vr.specs.Names.{SQ}
 use Rattle.vr.specs.Vr.{served_by_lists, dummy_of}
@@ -21,11 +20,11 @@ unfoldable pub spaced : List ℕ → List ℕ
 spaced t = pick (eqb (length t % 2) 0) t (t ++ 0x20 ∷ [])
 
 unfoldable pub listed : Settings → ℕ → ℕ → Option (List ℕ)
-listed s tag vr = pick (served_by_lists vr) (asked s.study s.site tag) none
+listed s tag vr = pick (served_by_lists vr) (asked s.study s.site tag) None
 
 abbrev pub or : Option (List ℕ) → List ℕ → List ℕ
-or none t = t
-or (some v) t = v
+or None t = t
+or (Some v) t = v
 
 unfoldable pub emptied_as : Settings → ℕ → ℕ → Field (Unit {0})
 emptied_as s tag vr = pick (eqb vr SQ) (items no_item) (value (spaced (or (listed s tag vr) [])))

@@ -3,8 +3,7 @@
 --     Uid                   a UID, as its characters
 --     held_uids v           the UIDs of a value that obeys its rule
 --     kept_of es s level    the kept content of the elements es, which stand on this level, under the settings s
-use Rattle.std.specs.Prelude.{List, [], ℕ}
-use Rattle.std.proofs.Math.Option.{Option, none, some}
+use Rattle.std.specs.Prelude.{List, [], ℕ, Option, None, Some}
 use Rattle.basis.specs.Choice.{pick}
 use Rattle.layout.specs.Tree.{Field, value, items, Elements, nil, elem, Items, none as no_item, item}
 use Rattle.uid.specs.Value.{uids_of}
@@ -19,8 +18,8 @@ abbrev pub Uid : Type 0
 Uid = List ℕ
 
 abbrev pub or_none : Option (List Uid) → List Uid
-or_none none = []
-or_none (some us) = us
+or_none None = []
+or_none (Some us) = us
 
 abbrev pub held_uids : List ℕ → List Uid
 held_uids v = or_none (uids_of v)

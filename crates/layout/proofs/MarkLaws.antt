@@ -8,6 +8,7 @@
 use mathlib.Core.Path.{◌≡◌, sym, ap, ap₂, ◌∙◌}
 use mathlib.Core.Bool.{Bool, true, false, and-false}
 use mathlib.Core.List.{List, ◌∷◌, ◌++◌}
+use Rattle.std.specs.Prelude.{None, Some, Ok}
 use Prim.Native.Nat.{ℕ, ◌+◌, ◌-◌, ◌*◌, ◌/◌, ◌%◌, ◌≤◌, ◌<◌}
 use native.Mathlib.Omega.{arith}
 use lib.Dec.{eqb, ltb, leb}
@@ -18,7 +19,7 @@ use Rattle.basis.specs.Choice.{pick}
 use Rattle.basis.specs.Bytes.{part, le2, le4, low2, low4}
 use Rattle.basis.proofs.ChoiceLaws.{both-true}
 use Rattle.vr.specs.Vr.{kind_of}
-use Rattle.vr.specs.declared.Kind.TheVariants.{Unknown, Short, Long, Sequence}
+use Rattle.vr.specs.declared.Kind.TheVariants.{Short, Long, Sequence}
 use Rattle.vr.proofs.VrLaws.{kind_of-all_vrs, all_vrs-two}
 use Rattle.layout.specs.Source.{explicitly}
 use Rattle.layout.specs.Heads.{tag_at, item_tag, item_end, sequence_end, undefined, allowed, length_fault, value_head, sequence_head, long_head, vr_head, tag_head, element_head, item_body, item_at, item_head}
@@ -83,19 +84,19 @@ tag_at-at {s} {at} tag xs lt h =
 -- ---- header: one law for each kind of VR
 
 module _ (tag vr n : ℕ) where
-  pub header-unknown : kind_of vr ≡ Unknown → header tag vr n ≡ short_header tag vr n
+  pub header-unknown : kind_of vr ≡ None → header tag vr n ≡ short_header tag vr n
   unfolding header
   header-unknown e = rw (e, header)
 
-  pub header-short : kind_of vr ≡ Short → header tag vr n ≡ short_header tag vr n
+  pub header-short : kind_of vr ≡ Some Short → header tag vr n ≡ short_header tag vr n
   unfolding header
   header-short e = rw (e, header)
 
-  pub header-long : kind_of vr ≡ Long → header tag vr n ≡ long_header tag vr n
+  pub header-long : kind_of vr ≡ Some Long → header tag vr n ≡ long_header tag vr n
   unfolding header
   header-long e = rw (e, header)
 
-  pub header-sequence : kind_of vr ≡ Sequence → header tag vr n ≡ long_header tag vr n
+  pub header-sequence : kind_of vr ≡ Some Sequence → header tag vr n ≡ long_header tag vr n
   unfolding header
   header-sequence e = rw (e, header)
 
@@ -118,12 +119,12 @@ module _ (s : List ℕ) (at : ℕ) (unstated : Bool) (low tag vr : ℕ) (rises :
       rw (apart at (length s) left, le-ltb (length s - at) 8 left, t, n, and-false, le-leb low tag rises, may, v)
 
   -- an element with a value of n bytes
-  value-head : (body n : ℕ) → n % 2 ≡ 0 → body + n ≤ length s → value_head tag vr body (length s) n ≡ Plain tag vr body (body + n)
+  value-head : (body n : ℕ) → n % 2 ≡ 0 → body + n ≤ length s → value_head tag vr body (length s) n ≡ Ok (Plain tag vr body (body + n))
   unfolding value_head length_fault
   value-head body n even fits = rw (eq-eqb (n % 2) 0 even, le-ltb (length s - body) n (omega arith))
 
-  pub short-back : (n : ℕ) (xs : List ℕ) → kind_of vr ≡ Short → n < 65536 → n % 2 ≡ 0 → n ≤ length xs → At s at (header tag vr n ++ xs)
-      → element_head (explicitly s) at (length s) unstated low ≡ Plain tag vr (at + 8) (at + 8 + n)
+  pub short-back : (n : ℕ) (xs : List ℕ) → kind_of vr ≡ Some Short → n < 65536 → n % 2 ≡ 0 → n ≤ length xs → At s at (header tag vr n ++ xs)
+      → element_head (explicitly s) at (length s) unstated low ≡ Ok (Plain tag vr (at + 8) (at + 8 + n))
   short-back n xs kind lt even le h =
       let two : vr < 65536 = all_vrs-two vr (kind_of-all_vrs vr (λ e. let z : ◌≡◌ {A = ℕ} 0 1 = cc in omega arith)) in
       let b : At s at (tag_bytes tag ++ (low2 vr ++ (low2 n ++ xs))) = rw (header-short tag vr n kind) at h in
@@ -146,16 +147,16 @@ module _ (s : List ℕ) (at : ℕ) (unstated : Bool) (low tag vr : ℕ) (rises :
       let l : le4 s (at + 8) ≡ n = le4-at b 8 ∙ low4-le4 n lt in
       (tag-back (0 ∷ 0 ∷ (low4 n ++ xs)) b two (omega arith), rw (le-ltb (length s - at) 12 (omega arith), z, l), size)
 
-  pub long-back : (n : ℕ) (xs : List ℕ) → kind_of vr ≡ Long → n < undefined → n % 2 ≡ 0 → n ≤ length xs → At s at (header tag vr n ++ xs)
-      → element_head (explicitly s) at (length s) unstated low ≡ Plain tag vr (at + 12) (at + 12 + n)
+  pub long-back : (n : ℕ) (xs : List ℕ) → kind_of vr ≡ Some Long → n < undefined → n % 2 ≡ 0 → n ≤ length xs → At s at (header tag vr n ++ xs)
+      → element_head (explicitly s) at (length s) unstated low ≡ Ok (Plain tag vr (at + 12) (at + 12 + n))
   long-back n xs kind lt even le h =
       let two : vr < 65536 = all_vrs-two vr (kind_of-all_vrs vr (λ e. let z : ◌≡◌ {A = ℕ} 0 1 = cc in omega arith)) in
       let b : At s at (tag_bytes tag ++ (low2 vr ++ (0 ∷ 0 ∷ (low4 n ++ xs)))) = rw (header-long tag vr n kind) at h in
       let w = long-head n xs false two (omega arith) b in
       w.0 ∙ vr_head-long s at (length s) tag vr kind ∙ w.1 ∙ value-head (at + 12) n even (omega (arith, w.2))
 
-  pub sequence-back : (xs : List ℕ) → kind_of vr ≡ Sequence → At s at (header tag vr undefined ++ xs)
-      → element_head (explicitly s) at (length s) unstated low ≡ Seq tag (at + 12) (length s) true
+  pub sequence-back : (xs : List ℕ) → kind_of vr ≡ Some Sequence → At s at (header tag vr undefined ++ xs)
+      → element_head (explicitly s) at (length s) unstated low ≡ Ok (Seq tag (at + 12) (length s) true)
   unfolding sequence_head
   sequence-back xs kind h =
       let two : vr < 65536 = all_vrs-two vr (kind_of-all_vrs vr (λ e. let z : ◌≡◌ {A = ℕ} 0 1 = cc in omega arith)) in
@@ -163,8 +164,8 @@ module _ (s : List ℕ) (at : ℕ) (unstated : Bool) (low tag vr : ℕ) (rises :
       let w = long-head undefined xs true two (omega arith) b in
       w.0 ∙ vr_head-sequence s at (length s) tag vr kind ∙ w.1
 
-  pub empty-back : (xs : List ℕ) → kind_of vr ≡ Sequence → At s at (header tag vr 0 ++ xs)
-      → element_head (explicitly s) at (length s) unstated low ≡ Seq tag (at + 12) (at + 12 + 0) false
+  pub empty-back : (xs : List ℕ) → kind_of vr ≡ Some Sequence → At s at (header tag vr 0 ++ xs)
+      → element_head (explicitly s) at (length s) unstated low ≡ Ok (Seq tag (at + 12) (at + 12 + 0) false)
   unfolding sequence_head length_fault
   empty-back xs kind h =
       let two : vr < 65536 = all_vrs-two vr (kind_of-all_vrs vr (λ e. let z : ◌≡◌ {A = ℕ} 0 1 = cc in omega arith)) in
@@ -181,19 +182,19 @@ module _ (s : List ℕ) (at : ℕ) (xs : List ℕ) where
   unfolding mark
   mark-at tag n t l h = (tag_at-at tag (low4 n ++ xs) t h, le4-at h 4 ∙ low4-le4 n l, omega (arith, h.size))
 
-  pub item_end-back : (low : ℕ) → At s at (mark item_end 0 ++ xs) → element_head (explicitly s) at (length s) true low ≡ End (at + 8)
+  pub item_end-back : (low : ℕ) → At s at (mark item_end 0 ++ xs) → element_head (explicitly s) at (length s) true low ≡ Ok (End (at + 8))
   unfolding element_head
   item_end-back low h =
       let m = mark-at item_end 0 (omega arith) (omega arith) h in
       rw (apart at (length s) m.2, le-ltb (length s - at) 8 m.2, m.0, m.1)
 
-  pub sequence_end-back : (depth : ℕ) → At s at (mark sequence_end 0 ++ xs) → item_head s at (length s) true depth ≡ Over (at + 8)
+  pub sequence_end-back : (depth : ℕ) → At s at (mark sequence_end 0 ++ xs) → item_head s at (length s) true depth ≡ Ok (Over (at + 8))
   unfolding item_head
   sequence_end-back depth h =
       let m = mark-at sequence_end 0 (omega arith) (omega arith) h in
       rw (apart at (length s) m.2, le-ltb (length s - at) 8 m.2, m.0, m.1)
 
-  pub item-back : (depth : ℕ) → 0 < depth → At s at (mark item_tag undefined ++ xs) → item_head s at (length s) true depth ≡ Item (at + 8) (length s) true
+  pub item-back : (depth : ℕ) → 0 < depth → At s at (mark item_tag undefined ++ xs) → item_head s at (length s) true depth ≡ Ok (Item (at + 8) (length s) true)
   unfolding item_head item_at item_body
   item-back depth d h =
       let m = mark-at item_tag undefined (omega arith) (omega arith) h in

@@ -6,6 +6,7 @@
 use mathlib.Core.Path.{◌≡◌, refl, sym, ap, ap₂, ◌∙◌}
 use mathlib.Core.Bool.{Bool, true, false}
 use mathlib.Core.List.{List, [], ◌++◌}
+use Rattle.std.specs.Prelude.{Option, None, Some, Ok}
 use Prim.Native.Nat.{ℕ, zero, suc, ◌+◌, ◌-◌, ◌%◌, ◌≤◌, ◌<◌}
 use native.Mathlib.Omega.{arith}
 use lib.ListN.{length, length-append}
@@ -14,7 +15,7 @@ use Rattle.basis.specs.Bytes.{part}
 use Rattle.vr.specs.Names.{SQ}
 use Rattle.vr.specs.Vr.{kind_of}
 use Rattle.vr.specs.declared.Kind.{Kind}
-use Rattle.vr.specs.declared.Kind.TheVariants.{Unknown, Short, Long, Sequence}
+use Rattle.vr.specs.declared.Kind.TheVariants.{Short, Long, Sequence}
 use Rattle.layout.specs.Source.{explicitly}
 use Rattle.layout.specs.Tree.{Field, value, items, Elements, nil, elem, Items, none, item, Data, bare, bare_field, bare_items}
 use Rattle.layout.specs.Heads.{item_tag, item_end, sequence_end, undefined, allowed, element_head, item_head}
@@ -42,16 +43,16 @@ fuelled P n (suc g) h k = k g (omega arith)
 
 -- ---- how long headers are
 
-short-length : (tag vr n : ℕ) → kind_of vr ≡ Short → length (header tag vr n) ≡ 8
+short-length : (tag vr n : ℕ) → kind_of vr ≡ Some Short → length (header tag vr n) ≡ 8
 short-length tag vr n e = ap length (header-short tag vr n e)
 
-long-length : (tag vr n : ℕ) → kind_of vr ≡ Long → length (header tag vr n) ≡ 12
+long-length : (tag vr n : ℕ) → kind_of vr ≡ Some Long → length (header tag vr n) ≡ 12
 long-length tag vr n e = ap length (header-long tag vr n e)
 
-sequence-length : (tag vr n : ℕ) → kind_of vr ≡ Sequence → length (header tag vr n) ≡ 12
+sequence-length : (tag vr n : ℕ) → kind_of vr ≡ Some Sequence → length (header tag vr n) ≡ 12
 sequence-length tag vr n e = ap length (header-sequence tag vr n e)
 
-sq-sequence : kind_of SQ ≡ Sequence
+sq-sequence : kind_of SQ ≡ Some Sequence
 unfolding kind_of
 sq-sequence = refl
 
@@ -84,7 +85,7 @@ module _ (s : List ℕ) (j at : ℕ) (unstated : Bool) (depth low tag : ℕ) (le
     (next : (p : ℕ) → At s p k → length s - p < j → Back bare (elements_at j (explicitly s) p (length s) unstated depth (tag + 1)) d s p xs) where
   -- an element with a value, once its head is known
   value-step : (vr body : ℕ) (v : List ℕ) → at < body → At s body (v ++ k)
-      → element_head (explicitly s) at (length s) unstated low ≡ Plain tag vr body (body + length v)
+      → element_head (explicitly s) at (length s) unstated low ≡ Ok (Plain tag vr body (body + length v))
       → Back bare (elements_at (suc j) (explicitly s) at (length s) unstated depth low) (elem tt tag vr (value v) d) s at xs
   unfolding bare bare_field
   value-step vr body v lt h e =
@@ -99,7 +100,7 @@ module _ (s : List ℕ) (j at : ℕ) (unstated : Bool) (depth low tag : ℕ) (le
       }
 
   -- a sequence, once its items were read
-  items-step : (body stop : ℕ) (m : Bool) (is : Items (Unit {0})) → at < body → element_head (explicitly s) at (length s) unstated low ≡ Seq tag body stop m
+  items-step : (body stop : ℕ) (m : Bool) (is : Items (Unit {0})) → at < body → element_head (explicitly s) at (length s) unstated low ≡ Ok (Seq tag body stop m)
       → (q : Back bare_items (items_at j (explicitly s) body stop m depth) is s body k)
       → Back bare (elements_at (suc j) (explicitly s) at (length s) unstated depth low) (elem tt tag SQ (items is) d) s at xs
   unfolding bare bare_field
@@ -118,7 +119,7 @@ module _ (s : List ℕ) (j at : ℕ) (unstated : Bool) (depth low tag : ℕ) (le
 -- ---- the items of a sequence, one at a time
 
 module _ (s : List ℕ) (j at depth : ℕ) (es : Data) (is : Items (Unit {0})) (ks xs : List ℕ) where
-  item-step : 0 < depth → length s - at < suc j → item_head s at (length s) true depth ≡ Item (at + 8) (length s) true
+  item-step : 0 < depth → length s - at < suc j → item_head s at (length s) true depth ≡ Ok (Item (at + 8) (length s) true)
       → (one : Back bare (elements_at j (explicitly s) (at + 8) (length s) true (depth - 1) 0) es s (at + 8) ks)
       → ((p : ℕ) → At s p ks → length s - p < j → Back bare_items (items_at j (explicitly s) p (length s) true depth) is s p xs)
       → Back bare_items (items_at (suc j) (explicitly s) at (length s) true depth) (item es is) s at xs
@@ -139,7 +140,7 @@ module _ (s : List ℕ) (j at depth : ℕ) (es : Data) (is : Items (Unit {0})) (
 
 -- the elements of a level end where `rest` begins
 abbrev Ends : List ℕ → Bool → List ℕ → List ℕ → Type 0
-Ends s unstated rest xs = (p low : ℕ) → At s p rest → (q : ℕ) × (element_head (explicitly s) p (length s) unstated low ≡ End q) × (p ≤ q) × At s q xs
+Ends s unstated rest xs = (p low : ℕ) → At s p rest → (q : ℕ) × (element_head (explicitly s) p (length s) unstated low ≡ Ok (End q)) × (p ≤ q) × At s q xs
 
 -- ... by an end mark
 mark-ends : (s xs : List ℕ) → Ends s true (closed xs) xs
@@ -162,18 +163,18 @@ value-back s j at unstated depth low tag vr v left rises may even fits d k xs ne
     le : length v ≤ length (v ++ k)
     le = rw (length-append v k) (omega arith)
 
-    step : (kind : Kind) → kind_of vr ≡ kind → length v < lengths_below vr
+    step : (kind : Option Kind) → kind_of vr ≡ kind → length v < lengths_below vr
         → Back bare (elements_at (suc j) (explicitly s) at (length s) unstated depth low) (elem tt tag vr (value v) d) s at xs
-    step Unknown e f = absurd (let z : length v < 0 = rw (lengths_below-unknown vr e) at f in omega arith)
-    step Short e f =
+    step None e f = absurd (let z : length v < 0 = rw (lengths_below-unknown vr e) at f in omega arith)
+    step (Some Short) e f =
         value-step s j at unstated depth low tag left rises may d k xs next vr (at + 8) v (omega arith)
         (past (header tag vr (length v)) (v ++ k) 8 (short-length tag vr (length v) e) h)
         (short-back s at unstated low tag vr rises may (length v) (v ++ k) e (rw (lengths_below-short vr e) at f) even le h)
-    step Long e f =
+    step (Some Long) e f =
         value-step s j at unstated depth low tag left rises may d k xs next vr (at + 12) v (omega arith)
         (past (header tag vr (length v)) (v ++ k) 12 (long-length tag vr (length v) e) h)
         (long-back s at unstated low tag vr rises may (length v) (v ++ k) e (rw (lengths_below-long vr e) at f) even le h)
-    step Sequence e f = absurd (let z : length v < 0 = rw (lengths_below-sequence vr e) at f in omega arith)
+    step (Some Sequence) e f = absurd (let z : length v < 0 = rw (lengths_below-sequence vr e) at f in omega arith)
 
 -- a sequence without items
 empty-back-items : (s : List ℕ) (f at depth : ℕ) (xs : List ℕ) → 0 < f → At s at xs

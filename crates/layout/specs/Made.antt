@@ -3,16 +3,16 @@
 --     Made depth low d   d's tags are allowed and rise from low on, its values have even lengths that fit, SQ alone holds items, and
 --                        its items nest at most depth deep
 -- Laws: `proofs/MadeLaws.antt`. Assumes nothing.
-use Rattle.std.specs.Prelude.{◌≡◌, true, ℕ, ◌+◌, ◌-◌, ◌%◌, ◌≤◌, ◌<◌, length}
+use Rattle.std.specs.Prelude.{◌≡◌, true, ℕ, ◌+◌, ◌-◌, ◌%◌, ◌≤◌, ◌<◌, length, None, Some}
 use Rattle.vr.specs.Names.{SQ}
 use Rattle.vr.specs.Vr.{kind_of}
-use Rattle.vr.specs.declared.Kind.TheVariants.{Unknown, Short, Long, Sequence}
+use Rattle.vr.specs.declared.Kind.TheVariants.{Short, Long, Sequence}
 use Rattle.layout.specs.Tree.{Field, value, items, Elements, nil, elem, Items, none, item}
 use Rattle.layout.specs.Heads.{allowed, undefined}
 
 -- no value has an unknown VR, and none is a sequence's
 unfoldable pub lengths_below : ℕ → ℕ
-lengths_below vr = elim (kind_of vr) [ Unknown ↦ 0 | Short ↦ 65536 | Long ↦ undefined | Sequence ↦ 0 ]
+lengths_below vr = elim (kind_of vr) [ None ↦ 0 | Some Short ↦ 65536 | Some Long ↦ undefined | Some Sequence ↦ 0 ]
 
 unfoldable mutual
   pub Made : {L : Type 0} → ℕ → ℕ → Elements L → Type 0

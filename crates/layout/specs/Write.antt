@@ -7,10 +7,10 @@
 --     put.. k                      the bytes of the thing, followed by k
 --     bytes_of d                   the bytes of the data set d
 -- Headers are made anew from tag, VR and length. Laws: `proofs/MarkLaws.antt`, `proofs/RoundLaws.antt`. Assumes nothing.
-use Rattle.std.specs.Prelude.{List, [], ◌∷◌, ◌++◌, ℕ, ◌/◌, length}
+use Rattle.std.specs.Prelude.{List, [], ◌∷◌, ◌++◌, ℕ, ◌/◌, length, None, Some}
 use Rattle.basis.specs.Bytes.{low2, low4}
 use Rattle.vr.specs.Vr.{kind_of}
-use Rattle.vr.specs.declared.Kind.TheVariants.{Unknown, Short, Long, Sequence}
+use Rattle.vr.specs.declared.Kind.TheVariants.{Short, Long, Sequence}
 use Rattle.layout.specs.Tree.{Field, value, items, Elements, nil, elem, Items, none, item}
 use Rattle.layout.specs.Heads.{item_tag, item_end, sequence_end, undefined}
 
@@ -30,10 +30,10 @@ long_header tag vr n = tag_bytes tag ++ (low2 vr ++ (0 ∷ 0 ∷ low4 n))
 unfoldable pub header : ℕ → ℕ → ℕ → List ℕ
 header tag vr n =
     elim (kind_of vr) [
-      | Unknown ↦ short_header tag vr n
-      | Short ↦ short_header tag vr n
-      | Long ↦ long_header tag vr n
-      | Sequence ↦ long_header tag vr n
+      | None ↦ short_header tag vr n
+      | Some Short ↦ short_header tag vr n
+      | Some Long ↦ long_header tag vr n
+      | Some Sequence ↦ long_header tag vr n
     ]
 
 -- an item's bytes, with its tag in front; what follows an item, with its end mark in front

@@ -1,16 +1,19 @@
 // The shape of a data set: heads of elements, items and end marks, and the walk that finds the first fault (refusals 6 to 10).
 // Elements contain sequences, sequences contain items, items contain elements: three walkers call each other in that cycle. What
-// stands side by side is passed over in a loop, so the stack grows with the depth alone, and a value is never looked into.
+// stands side by side is passed over in a loop, so the stack grows with the depth alone, and a value is never looked into. The loops of
+// the walks, here and in the crates above, are no iterators: where the next head stands is known only once what the last one holds was
+// walked.
 #![tactic(auto)]
 
-ghost use Rattle.std.specs.Prelude.{◌≡◌, Bool, true, false, ℕ, ◌+◌, ◌-◌, ◌≤◌, ◌<◌, length};
+ghost use Rattle.std.specs.Prelude.{◌≡◌, None, Ok, ℕ, ◌+◌, ◌≤◌, ◌<◌, length};
 ghost use Rattle.basis.specs.Bytes.{le2, le4};
 ghost use Rattle.layout.specs.Limits.{deepest};
 ghost use Rattle.layout.specs.Source.{explicitly};
-ghost use Rattle.layout.specs.Heads.{tag_at, length_fault, value_head, sequence_head, long_head, vr_head, tag_head, element_head, item_body, item_at, item_head};
+ghost use Rattle.layout.specs.Heads.{tag_at, length_fault, unless, value_head, sequence_head, long_head, vr_head, tag_head, element_head, item_body, item_at, item_head};
 ghost use Rattle.layout.specs.Read.{read, shape_of};
-ghost use Rattle.layout.specs.Walks.{Inside, Within, deeper, Walked, WalkedItems};
+ghost use Rattle.layout.specs.Walks.{ended, stop_of, located, Inside, Within, Lies, deeper, Walked, WalkedItems};
 
+use refusals::{Fault, Refusal};
 use vr::Kind;
 
 // How many items may nest.
@@ -45,54 +48,51 @@ pub struct Container {
 }
 
 // What stands where an element may.
-#[derive(Clone, Copy)]
+#[derive(Clone, Copy, Debug, PartialEq, Eq)]
 pub enum Head {
-    // a fault: its number
-    Bad(u8),
     // the end of the container: the place past it
     End(usize),
-    // an element with a value: its tag, its VR, where the value begins, and the place past it
-    Plain(u64, u64, usize, usize),
-    // a sequence: its tag, where its items begin, where they have to stop, whether an end mark closes it
-    Seq(u64, usize, usize, bool),
+    // an element with a value: where the value begins, and the place past it
+    Plain {
+        tag: u64,
+        vr: u64,
+        body: usize,
+        past: usize,
+    },
+    // a sequence: where its items begin, where they have to stop, whether an end mark closes it
+    Seq {
+        tag: u64,
+        body: usize,
+        stop: usize,
+        unstated: bool,
+    },
 }
 
 // What stands where an item may.
-#[derive(Clone, Copy)]
+#[derive(Clone, Copy, Debug, PartialEq, Eq)]
 pub enum Spot {
-    // a fault: its number
-    Wrong(u8),
     // the end of the sequence: the place past it
     Over(usize),
     // an item: where its elements begin, where they have to stop, whether an end mark closes it
-    Item(usize, usize, bool),
-}
-
-// What a walk finds: no fault, and the place past what it walked; or the first fault's number and offset.
-#[derive(Clone, Copy)]
-pub enum Shape {
-    Fine(usize),
-    Fault(u8, usize),
-}
-
-fn wide(x: u8) -> u64
-    ensures { (result ≡ x) × (result < 256) }
-{
-    x as u64
+    Item {
+        body: usize,
+        stop: usize,
+        unstated: bool,
+    },
 }
 
 pub fn u16_at(s: &[u8], at: usize) -> u64
     requires { at + 2 ≤ length s.now }
     ensures { (result ≡ le2 s.now at) × (result < 65536) }
 {
-    wide(s[at]) + 256 * wide(s[at + 1])
+    u64::from(u16::from_le_bytes([s[at], s[at + 1]]))
 }
 
 pub fn u32_at(s: &[u8], at: usize) -> u64
     requires { at + 4 ≤ length s.now }
     ensures { (result ≡ le4 s.now at) × (result < 4294967296) }
 {
-    u16_at(s, at) + 65536 * u16_at(s, at + 2)
+    u64::from(u32::from_le_bytes([s[at], s[at + 1], s[at + 2], s[at + 3]]))
 }
 
 pub fn tag_at(s: &[u8], at: usize) -> u64
@@ -102,60 +102,88 @@ pub fn tag_at(s: &[u8], at: usize) -> u64
     u16_at(s, at) * 65536 + u16_at(s, at + 2)
 }
 
-// The fault of a stated length with `left` bytes to the container's end, or 0: an odd one first, then one past the end.
-fn length_fault(n: usize, left: usize) -> u8
-    ensures { result ≡ length_fault n left }
+// Heads take the whole data set and places in it, and no slices of it: what they find is told in its places, so each asks that they lie in it.
+// A tag is any number of four bytes, and what reads on from one asks that it is; a type for it would stand in every contract above.
+
+// A stated length, with `left` bytes to the container's end: it may not be odd, and then not pass the end.
+#[tactic(auto, unfolding(crate::specs::Heads::length_fault))]
+fn check_length(n: usize, left: usize) -> Result<(), Refusal>
+    ensures { result ≡ unless (length_fault n left) tt }
 {
     if n % 2 != 0 {
-        return refusals::BAD_LENGTH;
+        return Err(Refusal::BadLength);
     }
     if left < n {
-        return refusals::CUT_SHORT;
+        return Err(Refusal::CutShort);
     }
-    0
+    Ok(())
 }
 
 // An element with a value of `n` bytes at `body`.
-fn value_head(tag: u64, vr: u64, body: usize, end: usize, n: usize) -> Head
+#[tactic(auto, unfolding(crate::specs::Heads::value_head, crate::specs::Heads::length_fault))]
+fn value_head(tag: u64, vr: u64, body: usize, end: usize, n: usize) -> Result<Head, Refusal>
     requires { (body ≤ end) × (tag < 4294967296) }
     ensures value { result ≡ value_head tag vr body end n }
     ensures inside { (at : ℕ) → at + 8 ≤ body → Inside at end result }
 {
-    let fault = length_fault(n, end - body);
-    if fault != 0 {
-        return Head::Bad(fault);
+    check_length(n, end - body)?;
+    Ok(Head::Plain {
+        tag,
+        vr,
+        body,
+        past: body + n,
+    })
+}
+
+// Where what a sequence or an item holds has to stop, and whether an end mark closes it: it begins at `body`, and `n` is the length that
+// was read.
+#[tactic(auto, unfolding(crate::specs::Heads::length_fault))]
+fn stop_of(body: usize, end: usize, n: usize) -> Result<(usize, bool), Refusal>
+    requires { body ≤ end }
+    ensures { result ≡ stop_of body end n }
+{
+    if n == UNDEFINED {
+        return Ok((end, true));
     }
-    Head::Plain(tag, vr, body, body + n)
+    check_length(n, end - body)?;
+    Ok((body + n, false))
 }
 
 // A sequence whose items begin at `body`.
-fn sequence_head(tag: u64, body: usize, end: usize, n: usize) -> Head
+#[tactic(auto, unfolding(crate::specs::Heads::sequence_head, crate::specs::Heads::length_fault))]
+fn sequence_head(tag: u64, body: usize, end: usize, n: usize) -> Result<Head, Refusal>
     requires { (body ≤ end) × (tag < 4294967296) }
     ensures value { result ≡ sequence_head tag body end n }
     ensures inside { (at : ℕ) → at + 12 ≤ body → Inside at end result }
 {
-    if n == UNDEFINED {
-        return Head::Seq(tag, body, end, true);
-    }
-    let fault = length_fault(n, end - body);
-    if fault != 0 {
-        return Head::Bad(fault);
-    }
-    Head::Seq(tag, body, body + n, false)
+    let (stop, unstated) = stop_of(body, end, n)?;
+    Ok(Head::Seq {
+        tag,
+        body,
+        stop,
+        unstated,
+    })
 }
 
 // An element with a header of 12 bytes: a sequence, or a value.
-fn long_head(s: &[u8], at: usize, end: usize, tag: u64, vr: u64, items: bool) -> Head
+#[tactic(auto, unfolding(crate::specs::Heads::long_head))]
+fn long_head(
+    s: &[u8],
+    at: usize,
+    end: usize,
+    tag: u64,
+    vr: u64,
+    items: bool,
+) -> Result<Head, Refusal>
     requires { (at + 8 ≤ end) × (end ≤ length s.now) × (tag < 4294967296) }
     ensures value { result ≡ long_head s.now at end tag vr items }
     ensures inside { Inside at end result }
 {
     if end - at < 12 {
-        return Head::Bad(refusals::CUT_SHORT);
+        return Err(Refusal::CutShort);
     }
-    let zeros = u16_at(s, at + 6);
-    if zeros != 0 {
-        return Head::Bad(refusals::BAD_VR);
+    if u16_at(s, at + 6) != 0 {
+        return Err(Refusal::BadVr);
     }
     let n = u32_at(s, at + 8) as usize;
     if items {
@@ -165,196 +193,197 @@ fn long_head(s: &[u8], at: usize, end: usize, tag: u64, vr: u64, items: bool) ->
 }
 
 // The rest of an element's head, from its VR on.
-fn vr_head(s: &[u8], at: usize, end: usize, tag: u64) -> Head
+#[tactic(auto, unfolding(crate::specs::Heads::vr_head))]
+fn vr_head(s: &[u8], at: usize, end: usize, tag: u64) -> Result<Head, Refusal>
     requires { (at + 8 ≤ end) × (end ≤ length s.now) × (tag < 4294967296) }
     ensures value { result ≡ vr_head s.now at end tag (le2 s.now (at + 4)) }
     ensures inside { Inside at end result }
 {
     let vr = u16_at(s, at + 4);
-    let kind = vr::kind_of(vr);
-    match kind {
-        Kind::Unknown => Head::Bad(refusals::BAD_VR),
-        Kind::Short => {
-            let n = u16_at(s, at + 6) as usize;
-            value_head(tag, vr, at + 8, end, n)
-        }
+    match vr::kind_of(vr).ok_or(Refusal::BadVr)? {
+        Kind::Short => value_head(tag, vr, at + 8, end, u16_at(s, at + 6) as usize),
         Kind::Long => long_head(s, at, end, tag, vr, false),
         Kind::Sequence => long_head(s, at, end, tag, vr, true),
     }
 }
 
 // An element's head, from its tag on.
-fn tag_head(s: &[u8], at: usize, end: usize, tag: u64, low: u64) -> Head
+#[tactic(auto, unfolding(crate::specs::Heads::tag_head, crate::specs::Heads::allowed))]
+fn tag_head(s: &[u8], at: usize, end: usize, tag: u64, low: u64) -> Result<Head, Refusal>
     requires { (at + 8 ≤ end) × (end ≤ length s.now) × (tag < 4294967296) }
     ensures value { result ≡ tag_head (explicitly s.now) at end tag low }
     ensures inside { Inside at end result }
 {
-    if tag < low {
-        return Head::Bad(refusals::BAD_TAG);
-    }
-    if tag < FIRST_TAG {
-        return Head::Bad(refusals::BAD_TAG);
-    }
-    if NO_TAG <= tag {
-        return Head::Bad(refusals::BAD_TAG);
+    if tag < low || !(FIRST_TAG..NO_TAG).contains(&tag) {
+        return Err(Refusal::BadTag);
     }
     vr_head(s, at, end, tag)
 }
 
+// Whether a container ends at `at`: the place past it, if it does. It ends where it is full, or, where its length is not stated, at its end
+// mark before that; where it does not end, it has room for a header.
+fn ended(
+    s: &[u8],
+    at: usize,
+    end: usize,
+    unstated: bool,
+    mark: u64,
+) -> Result<Option<usize>, Refusal>
+    requires { (at ≤ end) × (end ≤ length s.now) }
+    ensures value { result ≡ ended s.now at end unstated mark }
+    ensures room { result ≡ Ok None → at + 8 ≤ end }
+{
+    if end - at < 8 {
+        if at == end && !unstated {
+            return Ok(Some(at));
+        }
+        return Err(Refusal::CutShort);
+    }
+    if unstated && tag_at(s, at) == mark {
+        if u32_at(s, at + 4) != 0 {
+            return Err(Refusal::BadLength);
+        }
+        return Ok(Some(at + 8));
+    }
+    Ok(None)
+}
+
 // What stands at `at` in a container of elements that ends at `end`, or, where its length is not stated, at its end mark before that.
 // The next tag has to be `low` at least.
-pub fn element_head(s: &[u8], at: usize, end: usize, unstated: bool, low: u64) -> Head
+#[tactic(auto, unfolding(crate::specs::Heads::element_head))]
+pub fn element_head(
+    s: &[u8],
+    at: usize,
+    end: usize,
+    unstated: bool,
+    low: u64,
+) -> Result<Head, Refusal>
     requires { (at ≤ end) × (end ≤ length s.now) }
     ensures value { result ≡ element_head (explicitly s.now) at end unstated low }
     ensures inside { Inside at end result }
 {
-    if end - at < 8 {
-        if at == end {
-            if unstated {
-                return Head::Bad(refusals::CUT_SHORT);
-            }
-            return Head::End(at);
-        }
-        return Head::Bad(refusals::CUT_SHORT);
+    if let Some(past) = ended(s, at, end, unstated, ITEM_END)? {
+        return Ok(Head::End(past));
     }
-    let tag = tag_at(s, at);
-    if unstated {
-        if tag == ITEM_END {
-            let n = u32_at(s, at + 4);
-            if n != 0 {
-                return Head::Bad(refusals::BAD_LENGTH);
-            }
-            return Head::End(at + 8);
-        }
-        return tag_head(s, at, end, tag, low);
-    }
-    tag_head(s, at, end, tag, low)
+    tag_head(s, at, end, tag_at(s, at), low)
 }
 
 // An item whose elements begin at `body`.
-fn item_body(body: usize, end: usize, n: usize) -> Spot
+#[tactic(auto, unfolding(crate::specs::Heads::item_body, crate::specs::Heads::length_fault))]
+fn item_body(body: usize, end: usize, n: usize) -> Result<Spot, Refusal>
     requires { body ≤ end }
     ensures value { result ≡ item_body body end n }
     ensures within { (at depth : ℕ) → at + 8 ≤ body → 0 < depth → Within at end depth result }
 {
-    if n == UNDEFINED {
-        return Spot::Item(body, end, true);
-    }
-    let fault = length_fault(n, end - body);
-    if fault != 0 {
-        return Spot::Wrong(fault);
-    }
-    Spot::Item(body, body + n, false)
+    let (stop, unstated) = stop_of(body, end, n)?;
+    Ok(Spot::Item {
+        body,
+        stop,
+        unstated,
+    })
 }
 
 // Where the mark that ends a sequence does not stand: an item, with `depth` more items allowed to nest.
-fn item_at(s: &[u8], at: usize, end: usize, tag: u64, depth: u8) -> Spot
+#[tactic(auto, unfolding(crate::specs::Heads::item_at))]
+fn item_at(s: &[u8], at: usize, end: usize, tag: u64, depth: u8) -> Result<Spot, Refusal>
     requires { (at + 8 ≤ end) × (end ≤ length s.now) }
     ensures value { result ≡ item_at s.now at end tag depth }
     ensures within { Within at end depth result }
 {
     if tag != ITEM {
-        return Spot::Wrong(refusals::BAD_TAG);
+        return Err(Refusal::BadTag);
     }
     if depth == 0 {
-        return Spot::Wrong(refusals::TOO_DEEP);
+        return Err(Refusal::TooDeep);
     }
-    let n = u32_at(s, at + 4) as usize;
-    item_body(at + 8, end, n)
+    item_body(at + 8, end, u32_at(s, at + 4) as usize)
 }
 
 // What stands at `at` in a sequence that ends at `end`, or, where its length is not stated, at its end mark before that.
-pub fn item_head(s: &[u8], at: usize, end: usize, unstated: bool, depth: u8) -> Spot
+#[tactic(auto, unfolding(crate::specs::Heads::item_head))]
+pub fn item_head(
+    s: &[u8],
+    at: usize,
+    end: usize,
+    unstated: bool,
+    depth: u8,
+) -> Result<Spot, Refusal>
     requires { (at ≤ end) × (end ≤ length s.now) }
     ensures value { result ≡ item_head s.now at end unstated depth }
     ensures within { Within at end depth result }
 {
-    if end - at < 8 {
-        if at == end {
-            if unstated {
-                return Spot::Wrong(refusals::CUT_SHORT);
-            }
-            return Spot::Over(at);
-        }
-        return Spot::Wrong(refusals::CUT_SHORT);
+    if let Some(past) = ended(s, at, end, unstated, SEQUENCE_END)? {
+        return Ok(Spot::Over(past));
     }
-    let tag = tag_at(s, at);
-    if unstated {
-        if tag == SEQUENCE_END {
-            let n = u32_at(s, at + 4);
-            if n != 0 {
-                return Spot::Wrong(refusals::BAD_LENGTH);
-            }
-            return Spot::Over(at + 8);
-        }
-        return item_at(s, at, end, tag, depth);
-    }
-    item_at(s, at, end, tag, depth)
+    item_at(s, at, end, tag_at(s, at), depth)
 }
 
-// The elements of a container.
+// What was found at a place, or the fault there.
+pub fn located<T: Copy>(found: Result<T, Refusal>, at: usize) -> Result<T, Fault>
+    ensures { result ≡ located found at }
+{
+    found.map_err(|refusal| Fault {
+        refusal,
+        offset: at,
+    })
+}
+
+// The elements of a container: the place past them, or the first fault.
 #[cycle(elements_item_sequence)]
-fn elements(s: &[u8], c: Container) -> Shape
-    requires { (c.from ≤ c.end) × (c.end ≤ length s.now) }
+fn elements(s: &[u8], c: Container) -> Result<usize, Fault>
+    requires { Lies c s.now }
     ensures { Walked (explicitly s.now) c result }
 {
     let mut at = c.from;
     let mut low: u64 = 0;
     loop {
-        let h = element_head(s, at, c.end, c.unstated, low);
-        match h {
-            Head::Bad(n) => return Shape::Fault(n, at),
-            Head::End(past) => return Shape::Fine(past),
-            Head::Plain(tag, _, _, past) => {
-                at = past;
-                low = tag + 1;
-            }
-            Head::Seq(tag, body, stop, m) => {
+        let head = located(element_head(s, at, c.end, c.unstated, low), at)?;
+        let (tag, past) = match head {
+            Head::End(past) => return Ok(past),
+            Head::Plain { tag, past, .. } => (tag, past),
+            Head::Seq {
+                tag,
+                body,
+                stop,
+                unstated,
+            } => {
                 let held = Container {
                     from: body,
                     end: stop,
-                    unstated: m,
-                    depth: c.depth,
+                    unstated,
+                    ..c
                 };
-                let q = sequence(s, held);
-                match q {
-                    Shape::Fault(n, offset) => return Shape::Fault(n, offset),
-                    Shape::Fine(past) => {
-                        at = past;
-                        low = tag + 1;
-                    }
-                }
+                (tag, sequence(s, held)?)
             }
-        }
+        };
+        at = past;
+        low = tag + 1;
     }
 }
 
-// The items of a sequence.
+// The items of a sequence: the place past them, or the first fault.
 #[cycle(elements_item_sequence)]
-pub fn sequence(s: &[u8], c: Container) -> Shape
-    requires { (c.from ≤ c.end) × (c.end ≤ length s.now) }
+pub fn sequence(s: &[u8], c: Container) -> Result<usize, Fault>
+    requires { Lies c s.now }
     ensures { WalkedItems (explicitly s.now) c result }
 {
     let mut at = c.from;
     loop {
-        let h = item_head(s, at, c.end, c.unstated, c.depth);
-        match h {
-            Spot::Wrong(n) => return Shape::Fault(n, at),
-            Spot::Over(past) => return Shape::Fine(past),
-            Spot::Item(body, stop, m) => {
+        let spot = located(item_head(s, at, c.end, c.unstated, c.depth), at)?;
+        match spot {
+            Spot::Over(past) => return Ok(past),
+            Spot::Item {
+                body,
+                stop,
+                unstated,
+            } => {
                 let held = Container {
                     from: body,
                     end: stop,
-                    unstated: m,
-                    depth: c.depth,
+                    unstated,
+                    ..c
                 };
-                let q = item(s, held);
-                match q {
-                    Shape::Fault(n, offset) => return Shape::Fault(n, offset),
-                    Shape::Fine(past) => {
-                        at = past;
-                    }
-                }
+                at = item(s, held)?;
             }
         }
     }
@@ -362,29 +391,32 @@ pub fn sequence(s: &[u8], c: Container) -> Shape
 
 // The elements of one item of a sequence in which `c.depth` more items may nest: inside it, one fewer.
 #[cycle(elements_item_sequence)]
-fn item(s: &[u8], c: Container) -> Shape
-    requires { (c.from ≤ c.end) × (c.end ≤ length s.now) × (0 < c.depth) }
+fn item(s: &[u8], c: Container) -> Result<usize, Fault>
+    requires lies { Lies c s.now }
+    requires deep { 0 < c.depth }
     ensures { Walked (explicitly s.now) (deeper c) result }
 {
-    let depth = c.depth - 1;
-    let held = Container {
-        from: c.from,
-        end: c.end,
-        unstated: c.unstated,
-        depth: depth,
-    };
-    elements(s, held)
+    elements(
+        s,
+        Container {
+            depth: c.depth - 1,
+            ..c
+        },
+    )
 }
 
-// The shape of a data set: no fault, or the first one.
-pub fn shape_of(s: &[u8]) -> Shape
+// The shape of a data set: the place past its elements, or the first fault.
+#[tactic(auto, unfolding(crate::specs::Read::read))]
+pub fn shape_of(s: &[u8]) -> Result<usize, Fault>
     ensures { result ≡ shape_of (read deepest (explicitly s.now)) }
 {
-    let whole = Container {
-        from: 0,
-        end: s.len(),
-        unstated: false,
-        depth: DEEPEST,
-    };
-    elements(s, whole)
+    elements(
+        s,
+        Container {
+            from: 0,
+            end: s.len(),
+            unstated: false,
+            depth: DEEPEST,
+        },
+    )
 }

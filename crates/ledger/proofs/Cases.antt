@@ -4,12 +4,12 @@ use mathlib.Core.List.{List, [], ◌∷◌, ◌++◌, map}
 use native.Mathlib.Decide.{ℕ_discrete}
 use Prim.Native.Nat.{ℕ, ◌*◌}
 use lib.ListN.{replicate}
+use Rattle.std.specs.Prelude.{None}
 use Rattle.basis.specs.Text.{ascii}
 use Rattle.buffer.specs.Buffer.{laid, cleared}
 use Rattle.ledger.specs.FirstMet.{first_at, number_of, learn, learns, numbers, same_uid}
 use Rattle.ledger.specs.Slots.{slot_size, slots_of, slot_of, slots_in, flat}
-use Rattle.ledger.specs.SlotFor.{slot_for, ledger_for}
-use Rattle.ledger.specs.declared.Slot.TheVariants.{Full, At}
+use Rattle.ledger.specs.SlotFor.{numbered, slot_for, ledger_for}
 
 abbrev a : List ℕ
 a = ascii "1.2.3"
@@ -36,18 +36,18 @@ pub cases :
     × (slots_of (zeros 64) ≡ 1)
     × (slots_of (zeros 127) ≡ 1)
     -- the next slot, and the ledger then; one that is found; none left
-    × (slot_for (zeros 128) 0 (slot_of a) ≡ At 1 1)
+    × (slot_for (zeros 128) 0 (slot_of a) ≡ numbered 1 1)
     × (ledger_for (zeros 128) 0 (slot_of a) ≡ slot_of a ++ zeros 64)
-    × (slot_for (holding (a ∷ b ∷ [])) 1 (slot_of b) ≡ At 2 2)
-    × (slot_for (holding (a ∷ b ∷ [])) 2 (slot_of a) ≡ At 1 2)
-    × (slot_for (holding (a ∷ [])) 1 (slot_of b) ≡ Full)
+    × (slot_for (holding (a ∷ b ∷ [])) 1 (slot_of b) ≡ numbered 2 2)
+    × (slot_for (holding (a ∷ b ∷ [])) 2 (slot_of a) ≡ numbered 1 2)
+    × (slot_for (holding (a ∷ [])) 1 (slot_of b) ≡ None)
     × (ledger_for (holding (a ∷ [])) 1 (slot_of b) ≡ holding (a ∷ []))
-    × (slot_for [] 0 (slot_of a) ≡ Full)
+    × (slot_for [] 0 (slot_of a) ≡ None)
     -- two slots in use that are alike: the first one's number (U7); one with garbage behind its UID is another (U6)
-    × (slot_for (holding (a ∷ a ∷ [])) 2 (slot_of a) ≡ At 1 2)
-    × (slot_for (holding ((a ++ 0 ∷ a) ∷ b ∷ [])) 1 (slot_of a) ≡ At 2 2)
+    × (slot_for (holding (a ∷ a ∷ [])) 2 (slot_of a) ≡ numbered 1 2)
+    × (slot_for (holding ((a ++ 0 ∷ a) ∷ b ∷ [])) 1 (slot_of a) ≡ numbered 2 2)
     -- past the count in use nothing is looked at, and all is zeroed, a ragged end too (U8, U9)
-    × (slot_for (holding (b ∷ a ∷ [])) 1 (slot_of a) ≡ At 2 2)
+    × (slot_for (holding (b ∷ a ∷ [])) 1 (slot_of a) ≡ numbered 2 2)
     × (cleared (holding (b ∷ a ∷ []) ++ 7 ∷ []) (slot_size * 1) ≡ slot_of b ++ zeros 65)
 unfolding first_at number_of learn learns numbers same_uid ℕ_discrete slot_of slots_in flat slot_for ledger_for laid cleared
 cases = (refl, refl, refl, refl, refl, refl, refl, refl, refl, refl, refl, refl, refl, refl, refl, refl, refl, refl)

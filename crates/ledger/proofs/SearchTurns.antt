@@ -10,11 +10,14 @@ use mathlib.Core.List.{List}
 use Prim.Native.Nat.{ℕ, ◌+◌, ◌-◌, ◌*◌, ◌≤◌, ◌<◌}
 use native.Mathlib.Omega.{arith}
 use borrow.Author.Count.{below_more}
-use lib.ListN.{length, take, drop, get_or, length-drop}
-use lib.Seq.{length-take-le, get_or-take, get_or-drop, ext_get_or}
+use borrow.Author.Tests.{lt-ltb, le-ltb}
+use lib.ListN.{length, take, drop, get_or}
+use lib.Seq.{ext_get_or}
+use Rattle.std.specs.Prelude.{None, Some}
+use Rattle.basis.specs.Choice.{pick}
 use Rattle.ledger.specs.FirstMet.{first_at, same_uid}
 use Rattle.ledger.specs.Slots.{slot_size, slots_in}
-use Rattle.ledger.specs.SlotFor.{holds}
+use Rattle.ledger.specs.SlotFor.{holds, find}
 use Rattle.ledger.proofs.FirstMetLaws.{first_at-yes, first_at-no}
 use Rattle.ledger.proofs.SlotLaws.{slots_in-from}
 
@@ -25,45 +28,33 @@ abbrev Told : Bool → Type 0 → Type 0
 Told true P = P
 Told false P = P → ⊥
 
-abbrev Alike : List ℕ → List ℕ → ℕ → ℕ → Type 0
-Alike l key at i = (k : ℕ) → k < i → get_or l (at + k) 0 ≡ get_or key k 0
+abbrev Alike : List ℕ → List ℕ → ℕ → Type 0
+Alike slot key i = (k : ℕ) → k < i → get_or slot k 0 ≡ get_or key k 0
 
-pub record Compared (l key : List ℕ) (at i : ℕ) (same : Bool) : Type 0 where
-  pub upto : i ≤ slot_size
-  pub told : Told same (Alike l key at i)
+pub record Compared (slot key : List ℕ) (i : ℕ) (same : Bool) : Type 0 where
+  pub told : Told same (Alike slot key i)
 
-pub compared-start : (l key : List ℕ) (at : ℕ) → Compared l key at 0 true
-compared-start l key at = record { upto = omega arith; told = λ k h. absurd (omega arith) }
+pub compared-start : (slot key : List ℕ) → Compared slot key 0 true
+compared-start slot key = record { told = λ k h. absurd (omega arith) }
 
-module _ {l key : List ℕ} {at i : ℕ} {same : Bool} (w : Compared l key at i same) (lt : i < slot_size) where
-  pub compared-differ : {b : Bool} → (get_or l (at + i) 0 ≡ get_or key i 0 → ⊥) → b ≡ false → Compared l key at (i + 1) b
-  compared-differ n e = rw e record { upto = omega arith; told = λ a. n (a i (omega arith)) }
+module _ {slot key : List ℕ} {i : ℕ} {same : Bool} (w : Compared slot key i same) where
+  pub compared-differ : {b : Bool} → (get_or slot i 0 ≡ get_or key i 0 → ⊥) → b ≡ false → Compared slot key (i + 1) b
+  compared-differ n e = rw e record { told = λ a. n (a i (omega arith)) }
 
-  pub compared-equal : {b : Bool} → get_or l (at + i) 0 ≡ get_or key i 0 → b ≡ same → Compared l key at (i + 1) b
-  compared-equal f e = rw e record { upto = omega arith; told = step same w.told }
+  pub compared-equal : {b : Bool} → get_or slot i 0 ≡ get_or key i 0 → b ≡ same → Compared slot key (i + 1) b
+  compared-equal f e = rw e record { told = step same w.told }
     where
-      step : (b : Bool) → Told b (Alike l key at i) → Told b (Alike l key at (i + 1))
-      step true a = below_more (λ k. get_or l (at + k) 0 ≡ get_or key k 0) i a f
+      step : (b : Bool) → Told b (Alike slot key i) → Told b (Alike slot key (i + 1))
+      step true a = below_more (λ k. get_or slot k 0 ≡ get_or key k 0) i a f
       step false n = λ a. n (λ k h. a k (omega arith))
 
-module _ {l key : List ℕ} {at i : ℕ} {same : Bool} (w : Compared l key at i same) (all : slot_size ≤ i) (in-l : at + slot_size ≤ length l)
-    (size : length key ≡ slot_size) where
-  agree : Alike l key at i → take slot_size (drop at l) ≡ key
-  agree a =
-      let m : length (take slot_size (drop at l)) ≡ slot_size = length-take-le slot_size (drop at l) (simp length-drop (omega arith)) in
-      ext_get_or 0 (take slot_size (drop at l)) key (omega arith)
-      (λ k lt. get_or-take slot_size (drop at l) k 0 (omega arith) ∙ get_or-drop at l k 0 ∙ a k (omega arith))
-
-  alike : take slot_size (drop at l) ≡ key → Alike l key at i
-  alike e k lt = sym (get_or-take slot_size (drop at l) k 0 (omega (arith, w.upto)) ∙ get_or-drop at l k 0) ∙ ap (λ z. get_or z k 0) e
-
-  pub compared-end : same ≡ holds (same_uid (take slot_size (drop at l)) key)
-  compared-end = step same w.told (same_uid (take slot_size (drop at l)) key)
+  pub compared-end : length slot ≡ i → length key ≡ i → same ≡ holds (same_uid slot key)
+  compared-end h k = step same w.told (same_uid slot key)
     where
-      step : (b : Bool) → Told b (Alike l key at i) → (d : Dec (take slot_size (drop at l) ≡ key)) → b ≡ holds d
+      step : (b : Bool) → Told b (Alike slot key i) → (d : Dec (slot ≡ key)) → b ≡ holds d
       step true a (yes p) = refl
-      step true a (no n) = absurd (n (agree a))
-      step false n (yes p) = absurd (n (alike p))
+      step true a (no n) = absurd (n (ext_get_or 0 slot key (omega arith) (λ j lt. a j (omega arith))))
+      step false n (yes p) = absurd (n (λ j lt. ap (λ z. get_or z j 0) p))
       step false n (no m) = refl
 
 -- ---- find
@@ -77,41 +68,50 @@ holds-no (yes p) e q = false≢true e
 holds-no (no n) e q = n q
 
 pub record Searched (l : List ℕ) (used : ℕ) (key : List ℕ) (i : ℕ) : Type 0 where
-  pub upto : i ≤ used
   pub rest : first_at same_uid (slots_in l used) key ≡ i + first_at same_uid (slots_in (drop (slot_size * i) l) (used - i)) key
 
 pub searched-start : (l : List ℕ) (used : ℕ) (key : List ℕ) → Searched l used key 0
 searched-start l used key =
     let e : used - 0 ≡ used = omega arith in
     let f : 0 + first_at same_uid (slots_in l used) key ≡ first_at same_uid (slots_in l used) key = omega arith in
-    record { upto = omega arith; rest = rw e (sym f) }
+    record { rest = rw e (sym f) }
+
+is-found : (l : List ℕ) (used : ℕ) (key : List ℕ) (i : ℕ) → i ≡ first_at same_uid (slots_in l used) key → i < used → Some i ≡ find l used key
+unfolding find
+is-found l used key i e lt =
+    ap Some e ∙ sym (ap (λ b. pick b (Some (first_at same_uid (slots_in l used) key)) None) (lt-ltb (first_at same_uid (slots_in l used) key) used (omega arith)))
+
+is-not-found : (l : List ℕ) (used : ℕ) (key : List ℕ) → used ≤ first_at same_uid (slots_in l used) key → None ≡ find l used key
+unfolding find
+is-not-found l used key h =
+    sym (ap (λ b. pick b (Some (first_at same_uid (slots_in l used) key)) None) (le-ltb (first_at same_uid (slots_in l used) key) used h))
 
 module _ {l : List ℕ} {used : ℕ} {key : List ℕ} {i : ℕ} (w : Searched l used key i) where
-  pub searched-end : used ≤ i → i ≡ first_at same_uid (slots_in l used) key
-  unfolding slots_in first_at
-  searched-end h =
-      let e : used - i ≡ 0 = omega arith in
-      let f : first_at same_uid (slots_in (drop (slot_size * i) l) (used - i)) key ≡ 0 = rw e refl in
-      omega (arith, w.upto, w.rest, f)
+  pub searched-end : used ≤ i → None ≡ find l used key
+  searched-end h = is-not-found l used key (omega (arith, w.rest))
 
-  module _ (lt : i < used) {r : Bool} (is : r ≡ holds (same_uid (take slot_size (drop (slot_size * i) l)) key)) where
-    pub searched-found : r ≡ true → i ≡ first_at same_uid (slots_in l used) key
+  module _ (lt : i < used) {r : Bool} (n : ℕ) (size : n ≡ slot_size) (is : r ≡ holds (same_uid (take n (drop (slot_size * i) l)) key)) where
+    told : r ≡ holds (same_uid (take slot_size (drop (slot_size * i) l)) key)
+    told = is ∙ ap (λ k. holds (same_uid (take k (drop (slot_size * i) l)) key)) size
+
+    pub searched-found : r ≡ true → Some i ≡ find l used key
     searched-found e =
-        omega (
+        is-found l used key i
+        (omega (
           arith,
           w.rest,
           ap (λ z. first_at same_uid z key) (slots_in-from l used i lt)
-              ∙ first_at-yes same_uid _ _ key (holds-yes (same_uid (take slot_size (drop (slot_size * i) l)) key) (sym e ∙ is)),
-        )
+              ∙ first_at-yes same_uid _ _ key (holds-yes (same_uid (take slot_size (drop (slot_size * i) l)) key) (sym e ∙ told)),
+        ))
+        lt
 
     pub searched-more : r ≡ false → Searched l used key (i + 1)
     searched-more e = record {
-      upto = omega arith;
       rest =
           omega (
             arith,
             w.rest,
             ap (λ z. first_at same_uid z key) (slots_in-from l used i lt)
-                ∙ first_at-no same_uid _ _ key (holds-no (same_uid (take slot_size (drop (slot_size * i) l)) key) (sym e ∙ is)),
+                ∙ first_at-no same_uid _ _ key (holds-no (same_uid (take slot_size (drop (slot_size * i) l)) key) (sym e ∙ told)),
           );
     }

@@ -19,8 +19,6 @@ use lib.Dec.{eqb}
 use lib.ListN.{length, take, drop, replicate, length-replicate, length-append, length-drop}
 use lib.Seq.{drop-drop, take-add, take-append_seam, length-take-le}
 use Rattle.basis.specs.Choice.{fork}
-use Rattle.basis.specs.Bytes.{part}
-use Rattle.basis.proofs.BytesLaws.{length-part}
 use Rattle.basis.proofs.PiecesLaws.{Free, FreeAll}
 use Rattle.buffer.specs.Buffer.{laid}
 use Rattle.buffer.proofs.Laws.{laid-whole}
@@ -48,9 +46,9 @@ unfolding slot_of
 length-slot_of u h = omega (arith, length-append u (replicate (slot_size - length u) 0), length-replicate {A = ℕ} (slot_size - length u) 0)
 
 -- a key as `key_of` makes it
-pub slot_of-laid : (s : List ℕ) (a e : ℕ) → e ≤ length s → e - a ≤ slot_size → laid (replicate slot_size 0) 0 (part s a e) ≡ slot_of (part s a e)
+pub slot_of-laid : (u : List ℕ) → length u ≤ slot_size → laid (replicate slot_size 0) 0 u ≡ slot_of u
 unfolding slot_of
-slot_of-laid s a e k m = laid-zeros slot_size (part s a e) (omega (arith, length-part s a e k))
+slot_of-laid u h = laid-zeros slot_size u h
 
 -- the bytes before the first zero
 unfoldable pub unslot : List ℕ → List ℕ

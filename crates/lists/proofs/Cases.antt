@@ -5,7 +5,7 @@
 use mathlib.Core.Path.{◌≡◌, refl}
 use mathlib.Core.Bool.{true, false}
 use mathlib.Core.List.{List, [], ◌∷◌, ◌++◌, map}
-use mathlib.Core.Option.{Option, none, some}
+use Rattle.std.specs.Prelude.{Option, None, Some}
 use Prim.Native.Nat.{ℕ, zero, suc}
 use lib.ListN.{length, take, replicate}
 use Rattle.basis.specs.Choice.{every}
@@ -68,7 +68,7 @@ answers = asked subject other 0x00100010 ∷ asked [] other 0x00100010 ∷ asked
 
 pub cases :
     (map list_ok good ≡ map (λ _. true) good) × (map list_ok bad ≡ map (λ _. false) bad)
-    × (entries subject ≡ some (record { tag = 0x00100010; from = 4; to = 9 } ∷ []))
-    × (answers ≡ some (0x53 ∷ 0x55 ∷ 0x42 ∷ 0x4A ∷ 0x37 ∷ []) ∷ some (0x42 ∷ []) ∷ none ∷ some (0x41 ∷ []) ∷ [])
+    × (entries subject ≡ Some (record { tag = 0x00100010; from = 4; to = 9 } ∷ []))
+    × (answers ≡ Some (0x53 ∷ 0x55 ∷ 0x42 ∷ 0x4A ∷ 0x37 ∷ []) ∷ Some (0x42 ∷ []) ∷ None ∷ Some (0x41 ∷ []) ∷ [])
 unfolding every seven_bit number_at entry_at entries_from entries list_ok seek_from entry_of asked
 cases = (refl, refl, refl, refl)

@@ -1,4 +1,3 @@
-pub mod HandedLaws
 pub mod NumberLaws
 pub mod ListsLaws
 pub mod LookupLaws

@@ -3,17 +3,18 @@
 --     number_at-end, number_at-last, number_at-small   the same of a number within limits; of one that is small enough
 --     number_at-one                             a number of at most 127 is one byte
 --     Going high s at sum unit i                the groups from the place `at` up to i come to sum, and one at i is worth unit: what is left says the whole
---     going-start, going-more, going-zero, going-last, going-large, going-end, going-past      one for each way of the loop of `tag_at`
+--     going-start, going-more, going-last, going-end, going-past      one for each way of the loop of `tag_at`
 --     worth                                     a group is worth less than 128 units
 use mathlib.Core.Path.{◌≡◌, refl, ap, ◌∙◌}
-use mathlib.Core.Bool.{Bool, true, false, and-false}
+use mathlib.Core.Bool.{Bool, true, false, not, ◌&&◌, and-false}
 use mathlib.Core.List.{List}
-use mathlib.Core.Option.{Option, none, some}
+use Rattle.std.specs.Prelude.{Option, None, Some}
+use Rattle.std.specs.Bool.{then_some}
 use Prim.Native.Nat.{ℕ, ◌+◌, ◌*◌, ◌%◌, ◌≤◌, ◌<◌}
 use native.Mathlib.Numerals.{add-one}
 use native.Mathlib.Nat.{mul-le-mul_left}
 use native.Mathlib.Omega.{arith}
-use borrow.Author.Tests.{lt-ltb, le-ltb, le-leb, lt-leb, eq-eqb, ne_eqb, ltb-true, ltb-false, eqb-false}
+use borrow.Author.Tests.{lt-ltb, le-ltb, le-leb, lt-leb, ne_eqb, ltb-true, ltb-false, eqb-false}
 use lib.Dec.{eqb, leb, ltb, leb-zero}
 use lib.ListN.{length, get_or, drop, drop_of_length-le}
 use lib.Seq.{drop-cons}
@@ -26,11 +27,11 @@ above h = omega arith
 -- ---- seven_bit
 
 module _ (s : List ℕ) (at : ℕ) where
-  pub seven_bit-end : length s ≤ at → seven_bit (drop at s) ≡ none
+  pub seven_bit-end : length s ≤ at → seven_bit (drop at s) ≡ None
   unfolding seven_bit
   seven_bit-end h = rw (drop_of_length-le s h) refl
 
-  pub seven_bit-last : at < length s → get_or s at 0 < 128 → seven_bit (drop at s) ≡ some (get_or s at 0, 1)
+  pub seven_bit-last : at < length s → get_or s at 0 < 128 → seven_bit (drop at s) ≡ Some (get_or s at 0, 1)
   unfolding seven_bit
   seven_bit-last h l = rw (drop-cons s at 0 h, lt-ltb (get_or s at 0) 128 l) refl
 
@@ -41,7 +42,7 @@ module _ (s : List ℕ) (at : ℕ) where
 -- ---- number_at
 
 module _ (low high : ℕ) (s : List ℕ) (at : ℕ) where
-  pub number_at-end : length s ≤ at → number_at low high s at ≡ none
+  pub number_at-end : length s ≤ at → number_at low high s at ≡ None
   unfolding number_at
   number_at-end h = rw (seven_bit-end s at h) refl
 
@@ -50,11 +51,11 @@ module _ (low high : ℕ) (s : List ℕ) (at : ℕ) where
   number_at-last h l = rw (seven_bit-last s at h l) refl
 
   -- more groups come to at least 128, where they are not one too many
-  large : (b : ℕ) (x : Option (ℕ × ℕ)) → high < 128 → then (then x (onto b)) (held low high at) ≡ none
-  large b none h = refl
-  large b (some r) h = go (eqb r.0 0) refl
+  large : (b : ℕ) (x : Option (ℕ × ℕ)) → high < 128 → then (then x (onto b)) (held low high at) ≡ None
+  large b None h = refl
+  large b (Some r) h = go (eqb r.0 0) refl
     where
-      go : (t : Bool) → eqb r.0 0 ≡ t → then (pick t none (some (b % 128 + 128 * r.0, 1 + r.1))) (held low high at) ≡ none
+      go : (t : Bool) → eqb r.0 0 ≡ t → then (pick t None (Some (b % 128 + 128 * r.0, 1 + r.1))) (held low high at) ≡ None
       go true e = refl
       go false e =
           let n : r.0 ≡ 0 → ⊥ = eqb-false r.0 0 e in
@@ -71,7 +72,7 @@ module _ (low high : ℕ) (s : List ℕ) (at : ℕ) where
           rw (lt-leb (get_or s at 0) high (omega arith), and-false (leb low (get_or s at 0)), seven_bit-more s at h l)
           (large (get_or s at 0) (seven_bit (drop (at + 1) s)) k)
 
-pub number_at-small : (high : ℕ) (s : List ℕ) (at : ℕ) → 127 ≤ high → at < length s → get_or s at 0 < 128 → number_at 0 high s at ≡ some (get_or s at 0, at + 1)
+pub number_at-small : (high : ℕ) (s : List ℕ) (at : ℕ) → 127 ≤ high → at < length s → get_or s at 0 < 128 → number_at 0 high s at ≡ Some (get_or s at 0, at + 1)
 number_at-small high s at k h l =
     number_at-last 0 high s at h l ∙ rw (leb-zero (get_or s at 0), le-leb (get_or s at 0) high (omega arith)) refl
 
@@ -79,19 +80,19 @@ number_at-small high s at k h l =
 
 -- a number and the place past it, where it is at most high
 abbrev up_to : ℕ → ℕ → ℕ → Option (ℕ × ℕ)
-up_to high n place = pick (leb n high) (some (n, place)) none
+up_to high n place = pick (leb n high) (Some (n, place)) None
 
 abbrev carried : ℕ → ℕ → ℕ → ℕ → Option (ℕ × ℕ) → Option (ℕ × ℕ)
-carried high sum unit i x = then x (λ r. pick (eqb r.0 0) none (up_to high (sum + unit * r.0) (i + r.1)))
+carried high sum unit i x = then x (λ r. pick (eqb r.0 0) None (up_to high (sum + unit * r.0) (i + r.1)))
 
 pub record Going (high : ℕ) (s : List ℕ) (at sum unit i : ℕ) : Type 0 where
   pub whole : number_at 0 high s at ≡ carried high sum unit i (seven_bit (drop i s))
 
 begun : (high at b : ℕ) (x : Option (ℕ × ℕ)) → then (then x (onto b)) (held 0 high at) ≡ carried high (b % 128) 128 (at + 1) x
-begun high at b none = refl
-begun high at b (some r) = go (eqb r.0 0)
+begun high at b None = refl
+begun high at b (Some r) = go (eqb r.0 0)
   where
-    go : (t : Bool) → then (pick t none (some (b % 128 + 128 * r.0, 1 + r.1))) (held 0 high at) ≡ pick t none (up_to high (b % 128 + 128 * r.0) (at + 1 + r.1))
+    go : (t : Bool) → then (pick t None (Some (b % 128 + 128 * r.0, 1 + r.1))) (held 0 high at) ≡ pick t None (up_to high (b % 128 + 128 * r.0) (at + 1 + r.1))
     go true = refl
     go false =
         let e : at + (1 + r.1) ≡ at + 1 + r.1 = omega arith in
@@ -102,12 +103,12 @@ unfolding number_at
 going-start high s at h l = record { whole = rw (seven_bit-more s at h l) (begun high at (get_or s at 0) (seven_bit (drop (at + 1) s))) }
 
 turned : (high sum unit i b : ℕ) (x : Option (ℕ × ℕ)) → carried high sum unit i (then x (onto b)) ≡ carried high (sum + unit * (b % 128)) (unit * 128) (i + 1) x
-turned high sum unit i b none = refl
-turned high sum unit i b (some r) = go (eqb r.0 0) refl
+turned high sum unit i b None = refl
+turned high sum unit i b (Some r) = go (eqb r.0 0) refl
   where
     go : (t : Bool) → eqb r.0 0 ≡ t
-        → carried high sum unit i (pick t none (some (b % 128 + 128 * r.0, 1 + r.1)))
-        ≡ pick t none (up_to high (sum + unit * (b % 128) + unit * 128 * r.0) (i + 1 + r.1))
+        → carried high sum unit i (pick t None (Some (b % 128 + 128 * r.0, 1 + r.1)))
+        ≡ pick t None (up_to high (sum + unit * (b % 128) + unit * 128 * r.0) (i + 1 + r.1))
     go true e = refl
     go false e =
         let n : r.0 ≡ 0 → ⊥ = eqb-false r.0 0 e in
@@ -115,11 +116,11 @@ turned high sum unit i b (some r) = go (eqb r.0 0) refl
         let p : i + (1 + r.1) ≡ i + 1 + r.1 = omega arith in
         rw (ne_eqb (b % 128 + 128 * r.0) 0 (λ z. n (omega arith)), v, p) refl
 
-past : (high sum unit i : ℕ) (x : Option (ℕ × ℕ)) → high < unit → carried high sum unit i x ≡ none
-past high sum unit i none h = refl
-past high sum unit i (some r) h = go (eqb r.0 0) refl
+past : (high sum unit i : ℕ) (x : Option (ℕ × ℕ)) → high < unit → carried high sum unit i x ≡ None
+past high sum unit i None h = refl
+past high sum unit i (Some r) h = go (eqb r.0 0) refl
   where
-    go : (t : Bool) → eqb r.0 0 ≡ t → pick t none (up_to high (sum + unit * r.0) (i + r.1)) ≡ none
+    go : (t : Bool) → eqb r.0 0 ≡ t → pick t None (up_to high (sum + unit * r.0) (i + r.1)) ≡ None
     go true e = refl
     go false e =
         let k : unit * 1 ≤ unit * r.0 = mul-le-mul_left unit (above (eqb-false r.0 0 e)) in
@@ -132,24 +133,21 @@ module _ {high : ℕ} {s : List ℕ} {at sum unit i : ℕ} (g : Going high s at 
       record { whole = g.whole ∙ ap (carried high sum unit i) (seven_bit-more s i h l) ∙ turned high sum unit i (get_or s i 0) (seven_bit (drop (i + 1) s)) }
 
   -- the last group: a zero is one too many; the number may be too large
-  pub going-zero : i < length s → get_or s i 0 ≡ 0 → number_at 0 high s at ≡ none
-  going-zero h e = g.whole ∙ rw (seven_bit-last s i h (omega arith), eq-eqb (get_or s i 0) 0 e) refl
-
-  last : i < length s → get_or s i 0 < 128 → (get_or s i 0 ≡ 0 → ⊥) → number_at 0 high s at ≡ up_to high (sum + unit * get_or s i 0) (i + 1)
-  last h l n = g.whole ∙ rw (seven_bit-last s i h l, ne_eqb (get_or s i 0) 0 n) refl
-
-  pub going-last : i < length s → get_or s i 0 < 128 → (get_or s i 0 ≡ 0 → ⊥) → sum + unit * get_or s i 0 ≤ high
-      → number_at 0 high s at ≡ some (sum + unit * get_or s i 0, i + 1)
-  going-last h l n k = last h l n ∙ rw (le-leb (sum + unit * get_or s i 0) high k) refl
-
-  pub going-large : i < length s → get_or s i 0 < 128 → (get_or s i 0 ≡ 0 → ⊥) → high < sum + unit * get_or s i 0 → number_at 0 high s at ≡ none
-  going-large h l n k = last h l n ∙ rw (lt-leb (sum + unit * get_or s i 0) high k) refl
+  pub going-last : i < length s → get_or s i 0 < 128
+      → number_at 0 high s at ≡ then_some (not (eqb (get_or s i 0) 0) && leb (sum + unit * get_or s i 0) high) (sum + unit * get_or s i 0, i + 1)
+  going-last h l =
+      g.whole ∙ rw (seven_bit-last s i h l) (go (eqb (get_or s i 0) 0) (leb (sum + unit * get_or s i 0) high) (sum + unit * get_or s i 0, i + 1))
+    where
+      go : (z k : Bool) (x : ℕ × ℕ) → pick z None (pick k (Some x) None) ≡ then_some (not z && k) x
+      go true k x = refl
+      go false true x = refl
+      go false false x = refl
 
   -- no more bytes; a group that is worth more than the largest number
-  pub going-end : length s ≤ i → number_at 0 high s at ≡ none
+  pub going-end : length s ≤ i → number_at 0 high s at ≡ None
   going-end h = g.whole ∙ rw (seven_bit-end s i h) refl
 
-  pub going-past : high < unit → number_at 0 high s at ≡ none
+  pub going-past : high < unit → number_at 0 high s at ≡ None
   going-past h = g.whole ∙ past high sum unit i (seven_bit (drop i s)) h
 
 -- a group is worth less than 128 units

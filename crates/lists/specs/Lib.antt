@@ -1,4 +1,3 @@
 pub mod Number
 pub mod Lists
 pub mod Lookup
-pub mod Handed

@@ -8,8 +8,7 @@
 --     entries_from left s at low            the entries of s from the place `at` to its end, at most `left` of them, of tags from low on; else none
 --     entries s                             all entries of s, in order; none where s breaks the rule
 --     list_ok s                             whether s keeps the rule
-use Rattle.std.specs.Prelude.{Bool, ◌&&◌, not, List, [], ◌∷◌, ℕ, zero, suc, ◌+◌, eqb, leb, length}
-use Rattle.std.proofs.Math.Option.{Option, none, some}
+use Rattle.std.specs.Prelude.{Bool, ◌&&◌, not, List, [], ◌∷◌, ℕ, zero, suc, ◌+◌, eqb, leb, length, Option, None, Some}
 use Rattle.basis.specs.Bytes.{part}
 use Rattle.basis.specs.Choice.{pick, fork, then, is_some, every}
 use Rattle.lists.specs.Number.{number_at}
@@ -30,7 +29,7 @@ unfoldable pub entry_at : List ℕ → ℕ → Option Entry
 entry_at s at =
     then (number_at 0 most_tag s at) (λ t.
     then (number_at 1 most_value s t.1) (λ n.
-    pick (leb (n.1 + n.0) (length s)) (some (record { tag = t.0; from = n.1; to = n.1 + n.0 })) none))
+    pick (leb (n.1 + n.0) (length s)) (Some (record { tag = t.0; from = n.1; to = n.1 + n.0 })) None))
 
 abbrev pub entry_value : List ℕ → Entry → List ℕ
 entry_value s e = part s e.from e.to
@@ -41,13 +40,13 @@ printable c = leb 0x20 c && leb c 0x7E && not (eqb c 0x5C)
 
 -- Document 01, Lists, 3rd sentence: tags rise strictly, so the next one is at least this one and one
 unfoldable pub entries_from : ℕ → List ℕ → ℕ → ℕ → Option (List Entry)
-entries_from zero s at low = pick (leb (length s) at) (some []) none
+entries_from zero s at low = pick (leb (length s) at) (Some []) None
 entries_from (suc left) s at low =
-    fork (leb (length s) at) (λ _. some []) (λ _.
+    fork (leb (length s) at) (λ _. Some []) (λ _.
     then (entry_at s at) (λ e.
     fork (leb low e.tag && every printable (entry_value s e))
-    (λ _. then (entries_from left s e.to (e.tag + 1)) (λ es. some (e ∷ es)))
-    (λ _. none)))
+    (λ _. then (entries_from left s e.to (e.tag + 1)) (λ es. Some (e ∷ es)))
+    (λ _. None)))
 
 unfoldable pub entries : List ℕ → Option (List Entry)
 entries s = entries_from most_entries s 0 0

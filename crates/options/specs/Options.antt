@@ -8,17 +8,13 @@
 --     chosen_in number os          those of the options os that the option number has
 --     chosen number                all options that it has, by rising code
 --     opt_at number bit            the option of that bit, where it is one and the option number has it
---     chosen_of x                  what the answer of the code stands for
-use Rattle.std.specs.Prelude.{Bool, List, [], ◌∷◌, ℕ}
-use Rattle.std.proofs.Math.Option.{Option, none, some}
-use Rattle.std.proofs.Math.ListN.{get_elem?}
+use Rattle.std.specs.Prelude.{Bool, List, [], ◌∷◌, ℕ, Option, None, Some}
+use Rattle.std.specs.Prelude.{slice_get}
 use Rattle.basis.specs.Choice.{pick, fork, then}
 use Rattle.basis.specs.Bytes.{has_bit}
 use Rattle.basis.specs.Text.{ascii}
 use Rattle.options.specs.declared.Opt.{Opt}
 use Rattle.options.specs.declared.Opt.TheVariants.{FullDates, ModifiedDates, PatientCharacteristics, DeviceIdentity, RetainUids, InstitutionIdentity}
-use Rattle.options.specs.declared.Chosen.{Chosen}
-use Rattle.options.specs.declared.Chosen.TheVariants.{Yes, No}
 
 -- Document 01, Which action, last paragraph, 1st sentence: the bits
 abbrev pub options : List Opt
@@ -68,8 +64,4 @@ abbrev pub chosen : ℕ → List Opt
 chosen number = chosen_in number options
 
 unfoldable pub opt_at : ℕ → ℕ → Option Opt
-opt_at number bit = then (get_elem? options bit) (λ o. pick (is_chosen number o) (some o) none)
-
-abbrev pub chosen_of : Option Opt → Chosen
-chosen_of none = No
-chosen_of (some o) = Yes o
+opt_at number bit = then (slice_get options bit) (λ o. pick (is_chosen number o) (Some o) None)

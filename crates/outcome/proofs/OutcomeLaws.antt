@@ -9,7 +9,7 @@ use mathlib.Core.Logic.{◌↔◌, ⊎_elim}
 use Rattle.basis.proofs.ChoiceLaws.{both-true}
 use mathlib.Core.Bool.{Bool, true, false, not}
 use mathlib.Core.List.{List, [], ◌∷◌}
-use mathlib.Core.Option.{Option, none, some}
+use Rattle.std.specs.Prelude.{Option, None, Some}
 use Prim.Native.Nat.{ℕ, ◌-◌, ◌*◌, ◌≤◌, ◌<◌}
 use native.Mathlib.Omega.{arith}
 use lib.Dec.{eqb}
@@ -19,6 +19,8 @@ use borrow.Author.Tests.{ltb-false, eqb-false, le-ltb, lt-ltb}
 use Rattle.ledger.proofs.SlotLaws.{slots_of-fits}
 use Rattle.basis.specs.Choice.{pick}
 use Rattle.kept.proofs.FaultsLaws.{Eleven, first_fault-number}
+use Rattle.refusals.specs.Refusals.{number}
+use Rattle.refusals.specs.declared.Fault.{Fault}
 use Rattle.layout.specs.Limits.{deepest, longest}
 use Rattle.layout.specs.Source.{Source}
 use Rattle.layout.specs.Tree.{Elements, Place}
@@ -29,7 +31,7 @@ use Rattle.ledger.specs.Slots.{slot_size, slots_of}
 use Rattle.lists.specs.Lists.{list_ok}
 use Rattle.options.specs.Settings.{settings_fault}
 use Rattle.treatment.specs.declared.Level.TheVariants.{Top}
-use Rattle.kept.specs.Faults.{Fault, first_fault}
+use Rattle.kept.specs.Faults.{first_fault}
 use Rattle.outcome.specs.Input.{Input, read_as, tree_of, tree_in, slots_after, bytes_for}
 use Rattle.outcome.specs.Conditions.{Condition, at_start, condition1, condition2, condition3, condition4, condition5, shape_condition, value_condition, condition13, condition14, fault_is, value_is, conditions}
 use Rattle.outcome.specs.Outcome.{refused, done, first_of, outcome_of, output_of, ledger_of}
@@ -38,15 +40,15 @@ use Rattle.outcome.specs.Outcome.{refused, done, first_of, outcome_of, output_of
 
 -- the first that holds, with none before it
 pub data First {I : Type 0} (i : I) (n o : ℕ) : List (Condition I) → Type 0 where
-  here : {t : I → Option ℕ} {cs : List (Condition I)} → t i ≡ some o → First i n o ((n, t) ∷ cs)
-  later : {c : Condition I} {cs : List (Condition I)} → c.1 i ≡ none → First i n o cs → First i n o (c ∷ cs)
+  here : {t : I → Option ℕ} {cs : List (Condition I)} → t i ≡ Some o → First i n o ((n, t) ∷ cs)
+  later : {c : Condition I} {cs : List (Condition I)} → c.1 i ≡ None → First i n o cs → First i n o (c ∷ cs)
 
 module _ {I : Type 0} (i : I) (c : Condition I) (cs : List (Condition I)) where
-  first_of-holds : (o : ℕ) → c.1 i ≡ some o → first_of (c ∷ cs) i ≡ refused c.0 o
+  first_of-holds : (o : ℕ) → c.1 i ≡ Some o → first_of (c ∷ cs) i ≡ refused c.0 o
   unfolding first_of
   first_of-holds o e = rw (e, first_of)
 
-  first_of-next : c.1 i ≡ none → first_of (c ∷ cs) i ≡ first_of cs i
+  first_of-next : c.1 i ≡ None → first_of (c ∷ cs) i ≡ first_of cs i
   unfolding first_of
   first_of-next e = rw (e, first_of)
 
@@ -64,12 +66,12 @@ first_to [] i n o e = absurd (no-done n o e)
 first_to (c ∷ cs) i n o e = step (c.1 i) refl (λ f. first_to cs i n o f)
   where
     step : (x : Option ℕ) → c.1 i ≡ x → (first_of cs i ≡ refused n o → First i n o cs) → First i n o (c ∷ cs)
-    step none q rest = later q (rest (sym (first_of-next i c cs q) ∙ e))
-    step (some p) q rest =
+    step None q rest = later q (rest (sym (first_of-next i c cs q) ∙ e))
+    step (Some p) q rest =
         let r : refused c.0 p ≡ refused n o = sym (first_of-holds i c cs p q) ∙ e in
         let m : c.0 ≡ n = cc in
         let k : p ≡ o = cc in
-        rw (← m) (here (q ∙ ap some k))
+        rw (← m) (here (q ∙ ap Some k))
 
 -- ---- outcome_of
 
@@ -80,14 +82,14 @@ outcome-refused i n o = (first_to conditions i n o, first-from conditions i n o)
 
 -- ---- a run that is done
 
-pub first_of-done : {I : Type 0} (c : Condition I) (cs : List (Condition I)) (i : I) → first_of (c ∷ cs) i ≡ done → (c.1 i ≡ none) × (first_of cs i ≡ done)
+pub first_of-done : {I : Type 0} (c : Condition I) (cs : List (Condition I)) (i : I) → first_of (c ∷ cs) i ≡ done → (c.1 i ≡ None) × (first_of cs i ≡ done)
 first_of-done c cs i e = step (c.1 i) refl
   where
-    step : (x : Option ℕ) → c.1 i ≡ x → (c.1 i ≡ none) × (first_of cs i ≡ done)
-    step none q = (q, sym (first_of-next i c cs q) ∙ e)
-    step (some o) q = absurd (no-done c.0 o (sym e ∙ first_of-holds i c cs o q))
+    step : (x : Option ℕ) → c.1 i ≡ x → (c.1 i ≡ None) × (first_of cs i ≡ done)
+    step None q = (q, sym (first_of-next i c cs q) ∙ e)
+    step (Some o) q = absurd (no-done c.0 o (sym e ∙ first_of-holds i c cs o q))
 
-pub at_start-none : (b : Bool) → at_start b ≡ none → b ≡ false
+pub at_start-none : (b : Bool) → at_start b ≡ None → b ≡ false
 at_start-none true e = absurd (let z : ◌≡◌ {A = ℕ} 0 1 = cc in omega arith)
 at_start-none false e = refl
 
@@ -101,7 +103,7 @@ pub record Accepted (i : Input) : Type 0 where
   pub tree : Elements Place
   pub past : ℕ
   pub reads : read deepest i.lent ≡ good tree past
-  pub values : first_fault tree i.settings Top ≡ none
+  pub values : first_fault tree i.settings Top ≡ None
   pub free : length (slots_after i) ≤ slots_of i.ledger
   pub room : length (bytes_for i) ≤ i.room
 
@@ -110,15 +112,15 @@ not-false true e = refl
 not-false false e = sym e
 
 -- a shape without fault: the number of a fault is one of 6 to 10
-read-good : (s : Source) (r : Result (Elements Place)) → read deepest s ≡ r → fault_is 6 r ≡ none → fault_is 7 r ≡ none → fault_is 8 r ≡ none
-    → fault_is 9 r ≡ none → fault_is 10 r ≡ none → (es : Elements Place) × (p : ℕ) × (r ≡ good es p)
+read-good : (s : Source) (r : Result (Elements Place)) → read deepest s ≡ r → fault_is 6 r ≡ None → fault_is 7 r ≡ None → fault_is 8 r ≡ None
+    → fault_is 9 r ≡ None → fault_is 10 r ≡ None → (es : Elements Place) × (p : ℕ) × (r ≡ good es p)
 read-good s (good es p) e a b c d f = (es, p, refl)
-read-good s (fault n o) e a b c d f = absurd (none-left n (read-fault deepest s n o e).0 (read-fault deepest s n o e).1 (other 6 a) (other 7 b) (other 8 c) (other 9 d) (other 10 f))
+read-good s (fault r o) e a b c d f = absurd (none-left (number r) (read-fault deepest s r o e).0 (read-fault deepest s r o e).1 (other 6 a) (other 7 b) (other 8 c) (other 9 d) (other 10 f))
   where
-    other : (m : ℕ) → pick (eqb n m) (some o) none ≡ none → eqb n m ≡ false
-    other m q = step (eqb n m) q
+    other : (m : ℕ) → pick (eqb (number r) m) (Some o) None ≡ None → eqb (number r) m ≡ false
+    other m q = step (eqb (number r) m) q
       where
-        step : (t : Bool) → pick t (some o) none ≡ none → t ≡ false
+        step : (t : Bool) → pick t (Some o) None ≡ None → t ≡ false
         step true q = absurd (let z : ◌≡◌ {A = ℕ} 0 1 = cc in omega arith)
         step false q = refl
 
@@ -132,11 +134,11 @@ read-good s (fault n o) e a b c d f = absurd (none-left n (read-fault deepest s 
         omega arith
 
 -- values without fault: the number of a fault is 11 or 12
-values-good : (x : Option Fault) → Eleven x → value_is 11 x ≡ none → value_is 12 x ≡ none → x ≡ none
-values-good none w a b = refl
-values-good (some f) w a b = absurd (⊎_elim (λ e. no-some f.offset (ap (λ n. pick (eqb n 11) (some f.offset) none) (sym e) ∙ a)) (λ e. no-some f.offset (ap (λ n. pick (eqb n 12) (some f.offset) none) (sym e) ∙ b)) w)
+values-good : (x : Option Fault) → Eleven x → value_is 11 x ≡ None → value_is 12 x ≡ None → x ≡ None
+values-good None w a b = refl
+values-good (Some f) w a b = absurd (⊎_elim (λ e. no-some f.offset (ap (λ n. pick (eqb n 11) (Some f.offset) None) (sym e) ∙ a)) (λ e. no-some f.offset (ap (λ n. pick (eqb n 12) (Some f.offset) None) (sym e) ∙ b)) w)
   where
-    no-some : (o : ℕ) → some o ≡ none → ⊥
+    no-some : (o : ℕ) → Some o ≡ None → ⊥
     no-some o e = let z : ◌≡◌ {A = ℕ} 0 1 = cc in omega arith
 
 module _ (i : Input) where

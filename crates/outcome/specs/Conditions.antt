@@ -4,10 +4,10 @@
 --     at_start b        the offset 0 where the test b holds
 --     condition1 to condition5, shape_condition n (6 to 10), value_condition n (11 and 12), condition13, condition14    one for each line
 --     conditions        all of them, with their numbers, in order
-use Rattle.std.specs.Prelude.{Bool, true, false, not, ◌&&◌, List, [], ◌∷◌, ℕ, eqb, ltb, length}
-use Rattle.std.proofs.Math.Option.{Option, none, some}
+use Rattle.std.specs.Prelude.{Bool, true, false, not, ◌&&◌, List, [], ◌∷◌, ℕ, eqb, ltb, length, Option, None, Some}
 use Rattle.basis.specs.Choice.{pick}
-use Rattle.refusals.specs.Refusals.{bad_settings, bad_root, bad_count, bad_list, too_long, cut_short, bad_tag, bad_vr, bad_length, too_deep, bad_uids, bad_dates, no_slot, no_room}
+use Rattle.refusals.specs.Refusals.{number, bad_settings, bad_root, bad_count, bad_list, too_long, cut_short, bad_tag, bad_vr, bad_length, too_deep, bad_uids, bad_dates, no_slot, no_room}
+use Rattle.refusals.specs.declared.Fault.{Fault}
 use Rattle.layout.specs.Limits.{longest}
 use Rattle.layout.specs.Tree.{Elements, Place}
 use Rattle.layout.specs.Read.{Result, good, fault}
@@ -16,15 +16,15 @@ use Rattle.ledger.specs.Slots.{slots_of}
 use Rattle.lists.specs.Lists.{list_ok}
 use Rattle.options.specs.Settings.{settings_fault}
 use Rattle.treatment.specs.declared.Level.TheVariants.{Top}
-use Rattle.kept.specs.Faults.{Fault, first_fault}
+use Rattle.kept.specs.Faults.{first_fault}
 use Rattle.outcome.specs.Input.{Input, read_as, tree_of, slots_after, bytes_for}
 
 abbrev pub Condition : Type 0 → Type 0
 Condition I = ℕ × (I → Option ℕ)
 
 abbrev pub at_start : Bool → Option ℕ
-at_start true = some 0
-at_start false = none
+at_start true = Some 0
+at_start false = None
 
 -- option number above 63; both date options; shift out of range, or not zero without Modified Dates
 unfoldable pub condition1 : Input → Option ℕ
@@ -48,16 +48,16 @@ condition5 i = at_start (ltb longest (length i.lent.bytes))
 
 -- the first fault of shape, front to back, has this number
 abbrev pub fault_is : ℕ → Result (Elements Place) → Option ℕ
-fault_is n (good es past) = none
-fault_is n (fault m offset) = pick (eqb m n) (some offset) none
+fault_is n (good es past) = None
+fault_is n (fault r offset) = pick (eqb (number r) n) (Some offset) None
 
 unfoldable pub shape_condition : ℕ → Input → Option ℕ
 shape_condition n i = fault_is n (read_as i)
 
 -- the first fault among the values, front to back, has this number
 abbrev pub value_is : ℕ → Option Fault → Option ℕ
-value_is n none = none
-value_is n (some f) = pick (eqb f.number n) (some f.offset) none
+value_is n None = None
+value_is n (Some f) = pick (eqb (number f.refusal) n) (Some f.offset) None
 
 unfoldable pub value_condition : ℕ → Input → Option ℕ
 value_condition n i = value_is n (first_fault (tree_of i) i.settings Top)

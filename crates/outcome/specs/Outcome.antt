@@ -6,8 +6,7 @@
 --     report_of i     what is handed back
 --     output_of i     every byte of the output afterwards
 --     ledger_of i     every byte of the ledger afterwards
-use Rattle.std.specs.Prelude.{List, [], ◌∷◌, ◌++◌, ℕ, ◌-◌, ◌*◌, ltb, length, take, replicate}
-use Rattle.std.proofs.Math.Option.{none, some}
+use Rattle.std.specs.Prelude.{List, [], ◌∷◌, ◌++◌, ℕ, ◌-◌, ◌*◌, ltb, length, take, replicate, None, Some}
 use Rattle.basis.specs.Choice.{pick}
 use Rattle.ledger.specs.Slots.{slot_size, slots_of, flat}
 use Rattle.treatment.specs.declared.Level.TheVariants.{Top}
@@ -22,7 +21,7 @@ pub data Outcome : Type 0 where
 -- the first of some conditions that holds
 unfoldable pub first_of : {I : Type 0} → List (Condition I) → I → Outcome
 first_of [] i = done
-first_of (c ∷ cs) i = elim (c.1 i) [ none ↦ first_of cs i | some offset ↦ refused c.0 offset ]
+first_of (c ∷ cs) i = elim (c.1 i) [ None ↦ first_of cs i | Some offset ↦ refused c.0 offset ]
 
 unfoldable pub outcome_of : Input → Outcome
 outcome_of i = first_of conditions i

@@ -8,7 +8,7 @@ use mathlib.Core.Logic.{◌↔◌, ◌⊎◌, inl, inr}
 use mathlib.Core.Bool.{Bool, true, ◌&&◌, and-eq-true_iff}
 use mathlib.Core.List.Memᴰ
 use mathlib.Core.List.{List, [], ◌∷◌, ◌++◌, map, Memᴰ}
-use mathlib.Core.Option.{Option, none, some}
+use Rattle.std.specs.Prelude.{Option, None, Some}
 use Prim.Native.Nat.{ℕ, ◌-◌, ◌*◌, ◌≤◌}
 use native.Mathlib.Omega.{arith}
 use native.Mathlib.Decide.{dec_le}
@@ -37,12 +37,12 @@ module _ {I : Type 0} (i : I) where
     after : List (Condition I)
     listed : cs ≡ before ++ (n, condition) ∷ after
     none_before : NoneHolds i before
-    holds : condition i ≡ some o
+    holds : condition i ≡ Some o
 
-  none_more : (c : Condition I) (cs : List (Condition I)) → c.1 i ≡ none → NoneHolds i cs → NoneHolds i (c ∷ cs)
+  none_more : (c : Condition I) (cs : List (Condition I)) → c.1 i ≡ None → NoneHolds i cs → NoneHolds i (c ∷ cs)
   none_more c cs e h d m = step (Memᴰ.cases_cons m)
     where
-      step : (d ≡ c) ⊎ Memᴰ d cs → d.1 i ≡ none
+      step : (d ≡ c) ⊎ Memᴰ d cs → d.1 i ≡ None
       step (inl q) = ap (λ (x : Condition I). x.1 i) q ∙ e
       step (inr k) = h d k
 
@@ -59,7 +59,7 @@ module _ {I : Type 0} (i : I) where
         holds = r.holds;
       }
 
-  first-held : (n o : ℕ) (t : I → Option ℕ) (bs ds : List (Condition I)) → NoneHolds i bs → t i ≡ some o → First i n o (bs ++ (n, t) ∷ ds)
+  first-held : (n o : ℕ) (t : I → Option ℕ) (bs ds : List (Condition I)) → NoneHolds i bs → t i ≡ Some o → First i n o (bs ++ (n, t) ∷ ds)
   first-held n o t [] ds h e = here e
   first-held n o t (b ∷ bs) ds h e = later (h b (Memᴰ.head refl)) (first-held n o t bs ds (λ c m. h c (Memᴰ.tail m)) e)
 
@@ -74,15 +74,15 @@ module _ {I : Type 0} (i : I) where
   done_none [] e = λ c m. absurd (Memᴰ.not-nil m)
   done_none (c ∷ cs) e = step (c.1 i) refl e (λ r. done_none cs r)
     where
-      step : (x : Option ℕ) → c.1 i ≡ x → elim x [ none ↦ first_of cs i | some o ↦ refused c.0 o ] ≡ done → (first_of cs i ≡ done → NoneHolds i cs)
+      step : (x : Option ℕ) → c.1 i ≡ x → elim x [ None ↦ first_of cs i | Some o ↦ refused c.0 o ] ≡ done → (first_of cs i ≡ done → NoneHolds i cs)
           → NoneHolds i (c ∷ cs)
-      step none q r ih = none_more c cs q (ih r)
-      step (some o) q r ih = absurd (let z : ◌≡◌ {A = ℕ} 0 1 = cc in omega arith)
+      step None q r ih = none_more c cs q (ih r)
+      step (Some o) q r ih = absurd (let z : ◌≡◌ {A = ℕ} 0 1 = cc in omega arith)
 
   none_done : (cs : List (Condition I)) → NoneHolds i cs → first_of cs i ≡ done
   unfolding first_of
   none_done [] h = refl
-  none_done (c ∷ cs) h = let q : c.1 i ≡ none = h c (Memᴰ.head refl) in rw q (none_done cs (λ d m. h d (Memᴰ.tail m)))
+  none_done (c ∷ cs) h = let q : c.1 i ≡ None = h c (Memᴰ.head refl) in rw q (none_done cs (λ d m. h d (Memᴰ.tail m)))
 
 -- ---- the outcome
 

@@ -1,4 +1,5 @@
 pub mod ReportLaws
+pub mod RefusalLaws
 pub mod Demand1Proof
 pub mod TreatedProof
 pub mod TreatedCases

@@ -1,6 +1,6 @@
 -- Any two outcomes that a contract allows are one: document 01, "Pinning every answer down". Here are the words in which that is said. The
--- theorem of each public routine, `NAME-one`, is in the file of its crate: `OneOutcomeLayout` (layout, view), `OneOutcomeLeaves` (buffer,
--- vr, heads), `OneOutcomeRules` (table, uid, ledger, calendar, lists, options), `OneOutcomeValues` (fates, put, gains), `OneOutcomeEntries`
+-- theorem of each public routine, `NAME-one`, is in the file of its crate: `OneOutcomeLayout` (layout, view), `OneOutcomeLeaves` (refusals,
+-- buffer, vr, heads), `OneOutcomeRules` (table, uid, ledger, calendar, lists, options), `OneOutcomeValues` (fates, put, gains), `OneOutcomeEntries`
 -- (station, abi), and `OneOutcomeWalks` (write_uids, judge_values, write_walk: under a condition). Each is over the contract as its source has it (`Learnt`
 -- of the reading that the kit makes of the source), so that a weakened `ensures` is refused. Assumes nothing.
 --     OneAnswer R P         a routine that is handed numbers: the answers that P allows, which are in R, are one

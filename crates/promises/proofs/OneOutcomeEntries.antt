@@ -5,28 +5,30 @@
 --     corravisk-action-one        the one number
 -- The numbers that were lent to be written over may differ.
 use mathlib.Core.Path.{◌≡◌, sym, ap, ◌∙◌}
+use Rattle.std.specs.Prelude.{Result, Ok, Err}
 use Prim.Native.Nat.{ℕ}
 use contract.Lifetimes.{Lfts}
+use Rattle.refusals.specs.declared.Fault.{Fault}
+use Rattle.write_state.specs.declared.Progress.{Progress}
 use Rattle.station.specs.Entry.{report}
-use Rattle.station.specs.declared.HandedBack.{HandedBack}
-use Rattle.station.specs.declared.HandedBack.TheVariants.{Refused, Done}
 use Rattle.abi.proofs.corravisk_view.Reads as corravisk-view
 use Rattle.abi.proofs.corravisk_action.Reads as corravisk-action
 use Rattle.promises.specs.Running.{Lent, input, Runs, outcome}
 use Rattle.promises.specs.RunningC.{Calls}
+use Rattle.promises.proofs.RefusalLaws.{fault-one}
 use Rattle.promises.proofs.RunningProof.{said, outcome-is, station-one}
 use Rattle.promises.proofs.OneOutcome.{Slice, Buffer}
 use Rattle.promises.proofs.OneOutcomeWalks.{progress-one}
 
 -- ---- station
 
-report-one : (used : ℕ) (r r' : HandedBack) → outcome r ≡ outcome r' → report used r ≡ report used r' → r ≡ r'
-report-one used (Refused n o) (Refused n' o') e f = cc
-report-one used (Refused n o) (Done t) e f = cc
-report-one used (Done t) (Refused n o) e f = cc
-report-one used (Done t) (Done t') e f = ap Done (progress-one t t' (ap (λ z. z.written) f) (ap (λ z. z.used) f) (ap (λ z. z.counts) f))
+report-one : (used : ℕ) (r r' : Result Progress Fault) → outcome r ≡ outcome r' → report used r ≡ report used r' → r ≡ r'
+report-one used (Err f) (Err g) e h = ap Err (fault-one f g (ap (λ z. z.refusal) h) (ap (λ z. z.offset) h))
+report-one used (Err f) (Ok t) e h = cc
+report-one used (Ok t) (Err f) e h = cc
+report-one used (Ok t) (Ok t') e h = ap Ok (progress-one t t' (ap (λ z. z.written) h) (ap (λ z. z.used) h) (ap (λ z. z.counts) h))
 
-pub deidentify-one : (x y : Lent) (r r' : HandedBack) (l l' o o' : Buffer) → input x ≡ input y → Runs x r l o → Runs y r' l' o'
+pub deidentify-one : (x y : Lent) (r r' : Result Progress Fault) (l l' o o' : Buffer) → input x ≡ input y → Runs x r l o → Runs y r' l' o'
     → (r ≡ r') × (o.now ≡ o'.now) × (l.now ≡ l'.now)
 deidentify-one x y r r' l l' o o' i a b = (report-one x.used r r' same (one.0 ∙ ap (λ z. report z.used r') (sym i)), one.1, one.2)
   where

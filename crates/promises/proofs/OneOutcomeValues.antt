@@ -4,18 +4,20 @@ use mathlib.Core.Bool.{Bool}
 use Prim.Native.Nat.{ℕ}
 use lib.IntN.{ℤ}
 use contract.Lifetimes.{Lfts}
+use Rattle.treatment.specs.declared.Rules.{Rules}
 use Rattle.treatment.specs.declared.Level.{Level}
 use Rattle.treatment.specs.declared.Fate.{Fate}
 use Rattle.treatment.proofs.is_top.Reads as is-top
 use Rattle.treatment.proofs.walks_into.Reads as walks-into
 use Rattle.treatment.proofs.below.Reads as below
 use Rattle.treatment.proofs.fate_of.Reads as fate-of
+use Rattle.treatment.proofs.Rules.fate_of.Reads as rules-fate-of
 use Rattle.write_state.specs.declared.Progress.{Progress}
-use Rattle.write_state.proofs.at_place.Reads as at_place
-use Rattle.write_state.proofs.one_kept.Reads as one_kept
-use Rattle.write_state.proofs.one_replaced.Reads as one_replaced
-use Rattle.write_state.proofs.one_renamed.Reads as one_renamed
-use Rattle.write_state.proofs.one_removed.Reads as one_removed
+use Rattle.write_state.proofs.Progress.at_place.Reads as at_place
+use Rattle.write_state.proofs.Progress.one_kept.Reads as one_kept
+use Rattle.write_state.proofs.Progress.one_replaced.Reads as one_replaced
+use Rattle.write_state.proofs.Progress.one_renamed.Reads as one_renamed
+use Rattle.write_state.proofs.Progress.one_removed.Reads as one_removed
 use Rattle.write_values.proofs.put_same.Reads as put-same
 use Rattle.write_values.proofs.put_dates.Reads as put-dates
 use Rattle.write_values.proofs.put_text.Reads as put-text
@@ -40,17 +42,20 @@ pub fate-of-one : (options : ℕ) (level : Level) (tag vr : ℕ)
     → OneRead 1 Fate (λ κs s r. fate-of.Learnt κs (s, (options, (level, (tag, (vr, tt))))) r (s, (options, (level, (tag, (vr, tt))))))
 fate-of-one options level tag vr κs κs' s s' r r' e a b = cc
 
+pub rules-fate-of-one : (κs κs' : Lfts 1) (rules rules' : Rules) (level : Level) (tag vr : ℕ) (r r' : Fate) → rules.numbers.options ≡ rules'.numbers.options
+    → rules-fate-of.Learnt κs (rules, (level, (tag, (vr, tt)))) r (rules, (level, (tag, (vr, tt))))
+    → rules-fate-of.Learnt κs' (rules', (level, (tag, (vr, tt)))) r' (rules', (level, (tag, (vr, tt)))) → r ≡ r'
+rules-fate-of-one κs κs' rules rules' level tag vr r r' e a b = cc
+
 -- ---- write_values
 
-pub put-same-one : (tag vr from to pos : ℕ)
-    → OneCopy 2 ℕ (λ κs s o r p.
-    put-same.Learnt κs (tag, (vr, (s, (from, (to, (o, (pos, tt))))))) r (tag, (vr, (s, (from, (to, (p, (pos, tt))))))))
-put-same-one tag vr from to pos κs κs' s s' o o' p p' r r' d e a b = (cc, cc)
+pub put-same-one : (tag vr pos : ℕ)
+    → OneCopy 2 ℕ (λ κs s o r p. put-same.Learnt κs (tag, (vr, (s, (o, (pos, tt))))) r (tag, (vr, (s, (p, (pos, tt))))))
+put-same-one tag vr pos κs κs' s s' o o' p p' r r' d e a b = (cc, cc)
 
-pub put-dates-one : (tag vr from to : ℕ) (days : ℤ) (pos : ℕ)
-    → OneCopy 2 ℕ (λ κs s o r p.
-    put-dates.Learnt κs (tag, (vr, (s, (from, (to, (days, (o, (pos, tt)))))))) r (tag, (vr, (s, (from, (to, (days, (p, (pos, tt)))))))))
-put-dates-one tag vr from to days pos κs κs' s s' o o' p p' r r' d e a b = (cc, cc)
+pub put-dates-one : (tag vr : ℕ) (days : ℤ) (pos : ℕ)
+    → OneCopy 2 ℕ (λ κs s o r p. put-dates.Learnt κs (tag, (vr, (s, (days, (o, (pos, tt)))))) r (tag, (vr, (s, (days, (p, (pos, tt)))))))
+put-dates-one tag vr days pos κs κs' s s' o o' p p' r r' d e a b = (cc, cc)
 
 pub put-text-one : (tag vr pos : ℕ)
     → OneCopy 2 ℕ (λ κs s o r p. put-text.Learnt κs (tag, (vr, (s, (o, (pos, tt))))) r (tag, (vr, (s, (p, (pos, tt))))))

@@ -7,6 +7,7 @@
 --     running-demand1, running-demand2    DEMANDS 1 AND 2
 --     running-demand2-other    the other half of demand 2
 --     station-one          ONE OUTCOME: two calls that were lent the same leave the same
+use Rattle.std.specs.Prelude.{Some, None, Option, Result, Ok, Err}
 use mathlib.Core.Path.{◌≡◌, refl, sym, ap, ap₂, ◌∙◌}
 use mathlib.Core.Bool.{Bool, true, false}
 use mathlib.Core.Logic.{◌⊎◌, inl, inr}
@@ -20,7 +21,7 @@ use Rattle.basis.specs.Choice.{fork}
 use Rattle.vr.specs.Names.{CS}
 use Rattle.vr.specs.Vr.{kind_of}
 use Rattle.vr.specs.declared.Kind.{Kind}
-use Rattle.vr.specs.declared.Kind.TheVariants.{Unknown, Short, Long, Sequence}
+use Rattle.vr.specs.declared.Kind.TheVariants.{Short, Long, Sequence}
 use Rattle.layout.specs.Tree.{Field, value, items, nil, elem, none as no_item, item, Data}
 use Rattle.layout.specs.Heads.{undefined}
 use Rattle.layout.specs.Write.{header, put_elements, put_field, bytes_of}
@@ -28,18 +29,18 @@ use Rattle.layout.proofs.MarkLaws.{header-unknown, header-short, header-long, he
 use Rattle.table.specs.Rules.{patient_identity_removed_tag}
 use Rattle.kept.specs.Markers.{insert, with_markers}
 use Rattle.kept.specs.Written.{export, written}
-use Rattle.refusals.specs.Refusals.{no_room}
+use Rattle.refusals.specs.Refusals.{number, no_room}
+use Rattle.refusals.specs.declared.Fault.{Fault}
 use Rattle.outcome.specs.Input.{Input, bytes_for}
 use Rattle.outcome.specs.Outcome.{Outcome, refused, done, outcome_of, report_for, report_of, output_of, ledger_of}
+use Rattle.write_state.specs.declared.Progress.{Progress}
 use Rattle.station.specs.Entry.{report}
-use Rattle.station.specs.declared.HandedBack.{HandedBack}
-use Rattle.station.specs.declared.HandedBack.TheVariants.{Refused, Done}
 use Rattle.promises.specs.Running.{Lent, input, Runs, outcome, RunningDemand1, RunningDemand2, RunningDemand2Other}
 use Rattle.promises.proofs.Demand1Proof.{demand1}
 use Rattle.promises.proofs.Demand2Proof.{demand2}
 use Rattle.promises.proofs.Demand2Accepted.{exports-accepted}
 
-pub said : (x : Lent) (r : HandedBack) (l o : MutBor (List ℕ)) → Runs x r l o
+pub said : (x : Lent) (r : Result Progress Fault) (l o : MutBor (List ℕ)) → Runs x r l o
     → (report x.used r ≡ report_of (input x)) × (o.now ≡ output_of (input x)) × (l.now ≡ ledger_of (input x))
 said x r l o p = (search, search, search)
 
@@ -48,11 +49,11 @@ said x r l o p = (search, search, search)
 header-some : (tag vr n : ℕ) → 0 < length (header tag vr n)
 header-some tag vr n = step (kind_of vr) refl
   where
-    step : (k : Kind) → kind_of vr ≡ k → 0 < length (header tag vr n)
-    step Unknown e = omega (arith, ap length (header-unknown tag vr n e))
-    step Short e = omega (arith, ap length (header-short tag vr n e))
-    step Long e = omega (arith, ap length (header-long tag vr n e))
-    step Sequence e = omega (arith, ap length (header-sequence tag vr n e))
+    step : (k : Option Kind) → kind_of vr ≡ k → 0 < length (header tag vr n)
+    step None e = omega (arith, ap length (header-unknown tag vr n e))
+    step (Some Short) e = omega (arith, ap length (header-short tag vr n e))
+    step (Some Long) e = omega (arith, ap length (header-long tag vr n e))
+    step (Some Sequence) e = omega (arith, ap length (header-sequence tag vr n e))
 
 front-some : (a b : List ℕ) → 0 < length a → 0 < length (a ++ b)
 front-some a b h = omega (arith, length-append a b)
@@ -85,22 +86,22 @@ refused-number i n o e = step (demand1 i).ends
     step (inl d) = absurd (let z : ◌≡◌ {A = ℕ} 0 1 = cc in omega arith)
     step (inr q) = let z : q.0 ≡ n = cc in omega (arith, q.2)
 
-pub outcome-is : (i : Input) (used : ℕ) (r : HandedBack) → report used r ≡ report_of i → outcome r ≡ outcome_of i
+pub outcome-is : (i : Input) (used : ℕ) (r : Result Progress Fault) → report used r ≡ report_of i → outcome r ≡ outcome_of i
 unfolding report_of
-outcome-is i used (Refused n o) e = step (outcome_of i) refl
+outcome-is i used (Err f) e = step (outcome_of i) refl
   where
-    step : (a : Outcome) → outcome_of i ≡ a → refused n o ≡ outcome_of i
+    step : (a : Outcome) → outcome_of i ≡ a → refused (number f.refusal) f.offset ≡ outcome_of i
     step (refused m p) q =
-        let f : report used (Refused n o) ≡ report_for i (refused m p) = e ∙ ap (report_for i) q in
-        ap₂ refused (ap (λ z. z.refusal) f) (ap (λ z. z.offset) f) ∙ sym q
+        let g : report used (Err f) ≡ report_for i (refused m p) = e ∙ ap (report_for i) q in
+        ap₂ refused (ap (λ z. z.refusal) g) (ap (λ z. z.offset) g) ∙ sym q
     step done q =
-        let f : report used (Refused n o) ≡ report_for i done = e ∙ ap (report_for i) q in
-        absurd (omega (arith, ap (λ z. z.written) f, bytes-some i))
-outcome-is i used (Done t) e = step (outcome_of i) refl
+        let g : report used (Err f) ≡ report_for i done = e ∙ ap (report_for i) q in
+        absurd (omega (arith, ap (λ z. z.written) g, bytes-some i))
+outcome-is i used (Ok t) e = step (outcome_of i) refl
   where
     step : (a : Outcome) → outcome_of i ≡ a → done ≡ outcome_of i
     step (refused m p) q =
-        let f : report used (Done t) ≡ report_for i (refused m p) = e ∙ ap (report_for i) q in
+        let f : report used (Ok t) ≡ report_for i (refused m p) = e ∙ ap (report_for i) q in
         absurd (omega (arith, ap (λ z. z.refusal) f, refused-number i m p q))
     step done q = sym q
 
@@ -122,7 +123,7 @@ running-demand2-other x r l o ran clear q out k e =
 
 -- ---- one outcome
 
-pub station-one : (x y : Lent) (r r' : HandedBack) (l l' o o' : MutBor (List ℕ)) → input x ≡ input y → Runs x r l o → Runs y r' l' o'
+pub station-one : (x y : Lent) (r r' : Result Progress Fault) (l l' o o' : MutBor (List ℕ)) → input x ≡ input y → Runs x r l o → Runs y r' l' o'
     → (report x.used r ≡ report y.used r') × (o.now ≡ o'.now) × (l.now ≡ l'.now)
 station-one x y r r' l l' o o' i p q =
     let a = said x r l o p in

@@ -8,43 +8,58 @@
 --     ran-by                   a batch that ran in the words of `specs/Demand3.antt` was run by calls: the premises of running demand 3
 --     batch-by                 such a batch, of two data sets
 use mathlib.Core.Path.{◌≡◌, refl, sym, ap, ap₂, ◌∙◌}
+use mathlib.Core.Logic.{◌⊎◌, inl, inr}
 use mathlib.Core.List.{List, [], ◌∷◌}
-use Prim.Native.Nat.{ℕ}
+use Rattle.std.specs.Prelude.{Result, Ok, Err}
+use Prim.Native.Nat.{ℕ, ◌≤◌}
+use native.Mathlib.Omega.{arith}
 use lib.ListN.{replicate, length-replicate}
 use denote.Ref.{Bor, MutBor, at_last}
 use Rattle.basis.specs.Bytes.{AllBytes}
+use Rattle.refusals.specs.Refusals.{no_room}
+use Rattle.refusals.specs.declared.Fault.{Fault}
 use Rattle.layout.specs.Source.{Encoding, explicit, Source, explicitly}
 use Rattle.treatment.specs.Settings.{Settings}
 use Rattle.outcome.specs.Input.{Input}
 use Rattle.outcome.specs.Outcome.{Outcome, refused, done, Report, outcome_of, report_for, report_of, output_of, ledger_of}
+use Rattle.write_state.specs.declared.Progress.{Progress}
 use Rattle.station.specs.Entry.{input_of, report}
-use Rattle.station.specs.declared.HandedBack.{HandedBack}
-use Rattle.station.specs.declared.HandedBack.TheVariants.{Refused, Done}
 use Rattle.promises.specs.Demand3.{started, exported, Ran, none, next}
 use Rattle.promises.specs.Running.{Lent, input, Runs, outcome, Call, RanBy, none as none-by, next as next-by}
+use Rattle.promises.proofs.ReportLaws.{report-eq}
+use Rattle.promises.proofs.RefusalLaws.{of_number, number-of_number}
+use Rattle.promises.proofs.Demand1Proof.{demand1}
 use Rattle.promises.proofs.Witness as witness
 
 -- ---- an answer to whatever is lent
 
 -- the answer that tells an outcome and its report
-abbrev handed : Outcome → Report → HandedBack
-handed (refused n o) q = Refused n o
+abbrev handed : Outcome → Report → Result Progress Fault
+handed (refused n o) q = Err (record { refusal = of_number n; offset = o })
 handed done q =
-    Done
+    Ok
     (record { pos = q.written; used = q.used; kept = q.counts.stayed; replaced = q.counts.replaced; renamed = q.counts.renamings; removed = q.counts.removals })
 
-abbrev handed_for : Input → HandedBack
+abbrev handed_for : Input → Result Progress Fault
 handed_for i = handed (outcome_of i) (report_of i)
+
+-- a run ends with a number of the table, or it is done
+abbrev Ends : Outcome → Type 0
+Ends a = (a ≡ done) ⊎ ((n : ℕ) × (o : ℕ) × (1 ≤ n) × (n ≤ no_room) × (a ≡ refused n o))
 
 tells : (i : Input) → (report i.used (handed_for i) ≡ report_of i) × (outcome (handed_for i) ≡ outcome_of i)
 unfolding report_of
-tells i = step (outcome_of i)
+tells i = step (outcome_of i) (demand1 i).ends
   where
-    step : (a : Outcome) → (report i.used (handed a (report_for i a)) ≡ report_for i a) × (outcome (handed a (report_for i a)) ≡ a)
-    step (refused n o) = (refl, refl)
-    step done = (refl, refl)
+    step : (a : Outcome) → Ends a → (report i.used (handed a (report_for i a)) ≡ report_for i a) × (outcome (handed a (report_for i a)) ≡ a)
+    step (refused n o) (inl e) = absurd (let z : ◌≡◌ {A = ℕ} 0 1 = cc in omega arith)
+    step (refused n o) (inr q) =
+        let z : q.0 ≡ n = cc in
+        let e = number-of_number n (omega (arith, q.2, z)) (omega (arith, q.3, z)) in
+        (report-eq _ _ e refl refl refl refl, ap (λ m. refused m o) e)
+    step done e = (refl, refl)
 
-abbrev pub answer : Lent → HandedBack
+abbrev pub answer : Lent → Result Progress Fault
 answer x = handed_for (input x)
 
 pub can-run : (x : Lent) → Runs x (answer x) (at_last x.ledger (ledger_of (input x))) (at_last x.out (output_of (input x)))

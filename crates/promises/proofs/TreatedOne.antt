@@ -7,7 +7,7 @@ use mathlib.Core.Path.{◌≡◌, refl, sym, ap, ap₂, subst, ◌∙◌}
 use mathlib.Core.Logic.{◌≢◌, ◌⊎◌, inl, inr}
 use mathlib.Core.Bool.{Bool, true, false, false≢true}
 use mathlib.Core.List.{List, [], ◌++◌, map}
-use mathlib.Core.Option.{Option, none, some}
+use Rattle.std.specs.Prelude.{Option, None, Some}
 use Prim.Native.Nat.{ℕ, ◌%◌}
 use native.Mathlib.Omega.{arith}
 use lib.Dec.{eqb}
@@ -85,7 +85,7 @@ unfolding listed
 unlisted-one s tag vr t (inl e) = rw e
 unlisted-one s tag vr t (inr e) = step (served_by_lists vr)
   where
-    step : (b : Bool) → or (pick b (asked s.study s.site tag) none) t ≡ t
+    step : (b : Bool) → or (pick b (asked s.study s.site tag) None) t ≡ t
     step true = rw e
     step false = refl
 
@@ -124,7 +124,7 @@ module _ (s : Settings) (number_for : List ℕ → ℕ) (level : Level) (tag vr 
       let q : by_action action vr ≡ Dummied = fate-dummied action vr a n in
       record { φ = Dummied; is = q; appears = tt; wrote = e ∙ ap (λ φ. filler s φ tag vr) (sym q); counted = refl; uids-met = refl }
 
-  shifted-leaf : (v w : List ℕ) → action ≡ CleanDates → (vr ≡ DA) ⊎ (vr ≡ DT) → shifted_value (eqb vr DA) s.shift v ≡ some w → Leaf (value v) (value w) one_replaced []
+  shifted-leaf : (v w : List ℕ) → action ≡ CleanDates → (vr ≡ DA) ⊎ (vr ≡ DT) → shifted_value (eqb vr DA) s.shift v ≡ Some w → Leaf (value v) (value w) one_replaced []
   unfolding fate_of written_field map_body kept_field counts_field uids_in_body shifted_as
   shifted-leaf v w a d e =
       let q : by_action action vr ≡ Shifted = fate-shifted action vr a d in

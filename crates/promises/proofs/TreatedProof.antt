@@ -7,7 +7,7 @@ use mathlib.Core.Path.{◌≡◌, refl, sym, ap, subst, ◌∙◌}
 use mathlib.Core.Logic.{◌≢◌, ◌⊎◌, inl, inr, ⊎_elim}
 use mathlib.Core.Bool.{Bool, true, false, ◌||◌, false≢true}
 use mathlib.Core.List.{List, [], ◌∷◌, ◌++◌}
-use mathlib.Core.Option.{Option, none, some}
+use Rattle.std.specs.Prelude.{Option, None, Some}
 use Prim.Native.Nat.{ℕ, ◌+◌, ◌-◌, ◌<◌, ◌%◌}
 use native.Mathlib.Omega.{arith}
 use lib.Dec.{eqb}
@@ -15,7 +15,8 @@ use lib.ListN.{length}
 use borrow.Author.Tests.{eqb-true, eqb-false, eq-eqb, ne_eqb}
 use Rattle.basis.specs.Choice.{pick, among, is_none}
 use Rattle.basis.proofs.ChoiceLaws.{pick-case}
-use Rattle.refusals.specs.Refusals.{bad_uids, bad_dates}
+use Rattle.refusals.specs.declared.Refusal.TheVariants.{BadUids, BadDates}
+use Rattle.refusals.specs.declared.Fault.{Fault}
 use Rattle.vr.specs.Names.{DA, DT, SQ, TM, UI}
 use Rattle.vr.specs.Vr.{served_by_lists, dummy_of}
 use Rattle.layout.specs.Tree.{Field, value, items, Elements, nil, elem, Items, none as no_item, item, Place, Data, bare, bare_field, bare_items}
@@ -37,7 +38,7 @@ use Rattle.kept.specs.Kept.{Uid, or_none, held_uids, kept_value, kept_sequence, 
 use Rattle.kept.specs.Fillers.{spaced, listed, or, emptied_as, dummied_as}
 use Rattle.kept.specs.Written.{shifted_as, written_field, written_of, written_items}
 use Rattle.kept.specs.Counts.{Counts, counts, nothing, plus, one, inside, counts_field, counts_of, counts_items}
-use Rattle.kept.specs.Faults.{Fault, value_fault, sequence_fault, field_fault, first_fault, items_fault}
+use Rattle.kept.specs.Faults.{value_fault, sequence_fault, field_fault, first_fault, items_fault}
 use Rattle.treatment.proofs.FatesLaws.{fate-walked, fate-renamed, fate-shifted, fate-kept, fate-wrong}
 use Rattle.kept.proofs.FillersLaws.{lengths_below-other}
 use Rattle.kept.proofs.KeptLaws.{first-none, at-none, unpicked, Stays}
@@ -97,18 +98,18 @@ plus-nothing c = counts-eq _ _ _ _ _ _ _ _ (omega arith) (omega arith) (omega ar
 
 -- ---- what no fault says
 
-uids-found : (s : Settings) (vr : ℕ) (v : List ℕ) → value_fault s Renamed vr v ≡ 0 → uids_of v ≡ some (held_uids v)
+uids-found : (s : Settings) (vr : ℕ) (v : List ℕ) → value_fault s Renamed vr v ≡ None → uids_of v ≡ Some (held_uids v)
 uids-found s vr v e =
-    let r = uids_of-found v (unpicked (uids_fault v) bad_uids (omega arith) e) in
-    r.1 ∙ ap some (sym (ap or_none r.1))
+    let r = uids_of-found v (unpicked (uids_fault v) BadUids e) in
+    r.1 ∙ ap Some (sym (ap or_none r.1))
 
-shifted-found : (s : Settings) (vr : ℕ) (v : List ℕ) → value_fault s Shifted vr v ≡ 0 → shifted_value (eqb vr DA) s.shift v ≡ some (shifted_as s vr v)
+shifted-found : (s : Settings) (vr : ℕ) (v : List ℕ) → value_fault s Shifted vr v ≡ None → shifted_value (eqb vr DA) s.shift v ≡ Some (shifted_as s vr v)
 unfolding shifted_as
-shifted-found s vr v e = step (shifted_value (eqb vr DA) s.shift v) (unpicked (is_none (shifted_value (eqb vr DA) s.shift v)) bad_dates (omega arith) e)
+shifted-found s vr v e = step (shifted_value (eqb vr DA) s.shift v) (unpicked (is_none (shifted_value (eqb vr DA) s.shift v)) BadDates e)
   where
-    step : (o : Option (List ℕ)) → is_none o ≡ false → o ≡ some (or o v)
-    step none q = absurd (false≢true (sym q))
-    step (some x) q = refl
+    step : (o : Option (List ℕ)) → is_none o ≡ false → o ≡ Some (or o v)
+    step None q = absurd (false≢true (sym q))
+    step (Some x) q = refl
 
 -- ---- fillers
 
@@ -123,9 +124,9 @@ listed-or : (s : Settings) (tag vr : ℕ) (t : List ℕ) (P : List ℕ → Type 
 unfolding listed
 listed-or s tag vr t P f g = step (served_by_lists vr) refl (asked s.study s.site tag) refl
   where
-    step : (b : Bool) → served_by_lists vr ≡ b → (o : Option (List ℕ)) → asked s.study s.site tag ≡ o → P (or (pick b o none) t)
-    step true e (some v) q = f v (e, q)
-    step true e none q = g (inr q)
+    step : (b : Bool) → served_by_lists vr ≡ b → (o : Option (List ℕ)) → asked s.study s.site tag ≡ o → P (or (pick b o None) t)
+    step true e (Some v) q = f v (e, q)
+    step true e None q = g (inr q)
     step false e o q = g (inl e)
 
 module _ (s : Settings) (number_for : List ℕ → ℕ) (level : Level) (tag vr : ℕ) where
@@ -145,12 +146,12 @@ module _ (s : Settings) (number_for : List ℕ → ℕ) (level : Level) (tag vr 
       (λ e. listed-or s tag vr (dummy_of vr) (λ t. At f (value (spaced t)) (counts 0 1 0 0) []) (λ v l. dummied_listed a l (evened v))
       (λ u. dummies a (eqb-false vr SQ e) n u (evened (dummy_of vr))))
 
-  shifted-becomes : (v : List ℕ) → action_of s.options (is_top level) tag ≡ CleanDates → (vr ≡ DA) ⊎ (vr ≡ DT) → value_fault s Shifted vr v ≡ 0
+  shifted-becomes : (v : List ℕ) → action_of s.options (is_top level) tag ≡ CleanDates → (vr ≡ DA) ⊎ (vr ≡ DT) → value_fault s Shifted vr v ≡ None
       → At (value v) (value (shifted_as s vr v)) (counts 0 1 0 0) []
   shifted-becomes v a (inl e) ok = date a e (rw (eq-eqb vr DA e) at (shifted-found s vr v ok))
   shifted-becomes v a (inr e) ok = date_time a e (rw (ne_eqb vr DA (omega arith)) at (shifted-found s vr v ok))
 
-  value-becomes : (v : List ℕ) (φ : Fate) → fate s level tag vr ≡ φ → Stays φ → length v < lengths_below vr → value_fault s φ vr v ≡ 0
+  value-becomes : (v : List ℕ) (φ : Fate) → fate s level tag vr ≡ φ → Stays φ → length v < lengths_below vr → value_fault s φ vr v ≡ None
       → At (value v) (written_field (map_body number_for (kept_value v φ)) s level tag vr) (one φ) (uids_in_body (kept_value v φ))
   unfolding written_field map_body uids_in_body
   value-becomes v Removed e p fits ok = absurd p
@@ -160,7 +161,7 @@ module _ (s : Settings) (number_for : List ℕ → ℕ) (level : Level) (tag vr 
   value-becomes v Dummied e p fits ok = let b = fate-because s level tag vr Dummied e in rw e (dummied-becomes b.0 b.1 (value v))
   value-becomes v Renamed e p fits ok = let b = fate-because s level tag vr Renamed e in renames b.0 (omega (arith, b.1)) (uids-found s vr v ok)
   value-becomes v Shifted e p fits ok = let b = fate-because s level tag vr Shifted e in rw e (shifted-becomes v b.0 b.1 ok)
-  value-becomes v Wrong e p fits ok = absurd (omega arith)
+  value-becomes v Wrong e p fits ok = absurd (let z : ◌≡◌ {A = ℕ} 0 1 = cc in omega arith)
 
 -- ---- a level
 
@@ -194,7 +195,7 @@ module _ (s : Settings) (number_for : List ℕ → ℕ) (level : Level) (tag vr 
   entry-treated f b x Wrong e z h = h tt
 
   sequence-treated : (is : Items (Unit {0})) (ws : Walks Uid) (w : Counts) (x : Option Fault) (φ : Fate) → fate s level tag vr ≡ φ → Stays φ → vr ≡ SQ
-      → sequence_fault x φ ≡ none → (x ≡ none → TreatedItems s number_for (below φ level) is (written_items (map_walks number_for ws) s (below φ level)) w (uids_in_walks ws))
+      → sequence_fault x φ ≡ None → (x ≡ None → TreatedItems s number_for (below φ level) is (written_items (map_walks number_for ws) s (below φ level)) w (uids_in_walks ws))
       → Next (items is) (kept_sequence ws φ) (inside w φ) (one φ)
   unfolding written_field map_body uids_in_body
   sequence-treated is ws w x Removed e p q ok inner-ones = absurd p
@@ -217,7 +218,7 @@ mutual
 
   field-treated : (f : Field Place) (s : Settings) (number_for : List ℕ → ℕ) (level : Level) (depth tag vr offset : ℕ) (es : Data) (c : Content Uid) (y : Counts)
       → Treated s number_for level es (written_of (map_content number_for c) s level) y (uids_in c) → MadeField depth vr f
-      → field_fault f s level (fate s level tag vr) vr offset ≡ none
+      → field_fault f s level (fate s level tag vr) vr offset ≡ None
       → Treated s number_for level (elem tt tag vr (bare_field f) es)
       (written_of (map_content number_for (entry (fate s level tag vr) tag vr (λ φ. kept_field f s level φ) c)) s level)
       (plus (one (fate s level tag vr)) (plus (counts_field f s level (fate s level tag vr)) y))
@@ -234,7 +235,7 @@ mutual
       (counts_items is s (below (fate s level tag vr) level)) (items_fault is s (below (fate s level tag vr) level)) (fate s level tag vr) refl p m.0 ok
       (λ fine. items-treated is s number_for (below (fate s level tag vr) level) depth m.1 fine))
 
-  pub kept-treated : (es : Elements Place) (s : Settings) (number_for : List ℕ → ℕ) (level : Level) (depth low : ℕ) → Made depth low es → first_fault es s level ≡ none
+  pub kept-treated : (es : Elements Place) (s : Settings) (number_for : List ℕ → ℕ) (level : Level) (depth low : ℕ) → Made depth low es → first_fault es s level ≡ None
       → Treated s number_for level (bare es) (written_of (map_content number_for (kept_of es s level)) s level) (counts_of es s level) (uids_in (kept_of es s level))
   kept-treated nil s number_for level depth low m ok = end
   kept-treated (elem p tag vr f es) s number_for level depth low m ok =
@@ -242,7 +243,7 @@ mutual
       field-treated f s number_for level depth tag vr p.at (bare es) (kept_of es s level) (counts_of es s level)
       (kept-treated es s number_for level depth (tag + 1) m.3 o.1) m.2 o.0
 
-  items-treated : (is : Items Place) (s : Settings) (number_for : List ℕ → ℕ) (level : Level) (depth : ℕ) → MadeItems depth is → items_fault is s level ≡ none
+  items-treated : (is : Items Place) (s : Settings) (number_for : List ℕ → ℕ) (level : Level) (depth : ℕ) → MadeItems depth is → items_fault is s level ≡ None
       → TreatedItems s number_for level (bare_items is) (written_items (map_walks number_for (kept_items is s level)) s level) (counts_items is s level) (uids_in_walks (kept_items is s level))
   items-treated no_item s number_for level depth m ok = last
   items-treated (item es is) s number_for level depth m ok =

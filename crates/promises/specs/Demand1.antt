@@ -10,9 +10,8 @@
 --     EndsBy cs most i ledger used room a r out l    a run whose outcome is a ends rightly by the conditions cs, with numbers up to most
 --     EndsRightly i a r out l      the same of a data set, by the fourteen conditions
 --     Demand1                      the demand
-use Rattle.std.specs.Prelude.{◌≡◌, ◌↔◌, ◌⊎◌, ℕ, ◌-◌, ◌*◌, ◌≤◌, ◌<◌, length, take, replicate}
+use Rattle.std.specs.Prelude.{◌≡◌, ◌↔◌, ◌⊎◌, ℕ, ◌-◌, ◌*◌, ◌≤◌, ◌<◌, length, take, replicate, Option, None, Some}
 use mathlib.Core.List.{List, ◌∷◌, ◌++◌, Memᴰ}
-use Rattle.std.proofs.Math.Option.{Option, none, some}
 use Rattle.refusals.specs.Refusals.{no_room}
 use Rattle.ledger.specs.Slots.{slot_size, slots_of}
 use Rattle.kept.specs.Counts.{nothing}
@@ -21,7 +20,7 @@ use Rattle.outcome.specs.Conditions.{Condition, conditions}
 use Rattle.outcome.specs.Outcome.{Outcome, refused, done, outcome_of, Report, report_of, output_of, ledger_of}
 
 abbrev pub NoneHolds : {I : Type 0} → I → List (Condition I) → Type 0
-NoneHolds {I} i cs = (c : Condition I) → Memᴰ c cs → c.1 i ≡ none
+NoneHolds {I} i cs = (c : Condition I) → Memᴰ c cs → c.1 i ≡ None
 
 pub record FirstToHold {I : Type 0} (cs : List (Condition I)) (i : I) (n offset : ℕ) : Type 0 where
   pub before : List (Condition I)
@@ -29,7 +28,7 @@ pub record FirstToHold {I : Type 0} (cs : List (Condition I)) (i : I) (n offset 
   pub after : List (Condition I)
   pub listed : cs ≡ before ++ (n, condition) ∷ after
   pub none_before : NoneHolds i before
-  pub holds : condition i ≡ some offset
+  pub holds : condition i ≡ Some offset
 
 pub record Refuses (ledger : List ℕ) (used room n offset : ℕ) (r : Report) (out l : List ℕ) : Type 0 where
   -- what it hands back: number and offset, length 0, the count as it was given, four zero counts

@@ -11,18 +11,19 @@
 --     RanBy s l n xs outs    the data sets xs were run in order by calls of the station under the settings s, from the ledger l with n entries in
 --                       use; each was accepted and was handed the ledger and the count that the one before it left; outs is what they left
 --     RunningDemand3    the outputs of two batches are equal exactly when their kept contents are, up to one renaming
-use Rattle.std.specs.Prelude.{◌≡◌, ◌↔◌, List, [], ◌∷◌, map, ℕ, ℤ, length, take}
+use Rattle.std.specs.Prelude.{◌≡◌, ◌↔◌, List, [], ◌∷◌, map, ℕ, ℤ, length, take, Result, Ok, Err}
 use contract.Lifetimes.{Lfts}
 use Rattle.std.specs.Borrow.{Bor, MutBor}
 use Rattle.basis.specs.Bytes.{AllBytes}
+use Rattle.refusals.specs.Refusals.{number}
+use Rattle.refusals.specs.declared.Fault.{Fault}
 use Rattle.layout.specs.Source.{Source, explicitly}
 use Rattle.treatment.specs.Settings.{Settings}
 use Rattle.kept.specs.Renaming.{OneRenaming}
 use Rattle.outcome.specs.Input.{Input}
 use Rattle.outcome.specs.Outcome.{Outcome, refused, done, Report}
+use Rattle.write_state.specs.declared.Progress.{Progress}
 use Rattle.station.specs.Entry.{told, input_of, report}
-use Rattle.station.specs.declared.HandedBack.{HandedBack}
-use Rattle.station.specs.declared.HandedBack.TheVariants.{Refused, Done}
 use Rattle.station.proofs.deidentify.Reads as station
 use Rattle.promises.specs.Demand1.{EndsRightly}
 use Rattle.promises.specs.Demand2.{Exports, EarlyClear}
@@ -46,26 +47,26 @@ input x =
     input_of (explicitly x.lent.now) (told x.options x.shift x.root.now x.study.now x.site.now) x.ledger.now x.used
     (length x.out.now)
 
-abbrev pub Runs : Lent → HandedBack → MutBor (List ℕ) → MutBor (List ℕ) → Type 0
+abbrev pub Runs : Lent → Result Progress Fault → MutBor (List ℕ) → MutBor (List ℕ) → Type 0
 Runs x r l out =
     station.Learnt x.lifetimes (x.lent, (x.options, (x.shift, (x.root, (x.study, (x.site, (x.ledger, (x.used, (x.out, tt)))))))))
     r (x.lent, (x.options, (x.shift, (x.root, (x.study, (x.site, (l, (x.used, (out, tt)))))))))
 
-abbrev pub outcome : HandedBack → Outcome
-outcome (Refused n offset) = refused n offset
-outcome (Done t) = done
+abbrev pub outcome : Result Progress Fault → Outcome
+outcome (Err f) = refused (number f.refusal) f.offset
+outcome (Ok t) = done
 
 abbrev pub RunningDemand1 : Type 0
-RunningDemand1 = (x : Lent) (r : HandedBack) (l out : MutBor (List ℕ)) → Runs x r l out → EndsRightly (input x) (outcome r) (report x.used r) out.now l.now
+RunningDemand1 = (x : Lent) (r : Result Progress Fault) (l out : MutBor (List ℕ)) → Runs x r l out → EndsRightly (input x) (outcome r) (report x.used r) out.now l.now
 
 abbrev pub RunningDemand2 : Type 0
 RunningDemand2 =
-    (x : Lent) (r : HandedBack) (l out : MutBor (List ℕ)) → Runs x r l out → AllBytes x.lent.now → outcome r ≡ done
+    (x : Lent) (r : Result Progress Fault) (l out : MutBor (List ℕ)) → Runs x r l out → AllBytes x.lent.now → outcome r ≡ done
     → Exports (input x) (report x.used r) out.now l.now
 
 abbrev pub RunningDemand2Other : Type 0
 RunningDemand2Other =
-    (x : Lent) (r : HandedBack) (l out : MutBor (List ℕ)) → Runs x r l out → EarlyClear (input x) → (q : Report) (bytes k : List ℕ) → Exports (input x) q bytes k
+    (x : Lent) (r : Result Progress Fault) (l out : MutBor (List ℕ)) → Runs x r l out → EarlyClear (input x) → (q : Report) (bytes k : List ℕ) → Exports (input x) q bytes k
     → outcome r ≡ done
 
 -- a call that was lent the data set d, under the settings s, with the ledger l and n entries in use
@@ -76,7 +77,7 @@ pub record Call (s : Settings) (l : List ℕ) (n : ℕ) (d : Source) : Type 0 wh
   pub ledger_is : given.ledger.now ≡ l
   pub used_is : given.used ≡ n
   pub bytes : AllBytes d.bytes
-  pub result : HandedBack
+  pub result : Result Progress Fault
   pub ledger : MutBor (List ℕ)
   pub out : MutBor (List ℕ)
   pub runs : Runs given result ledger out

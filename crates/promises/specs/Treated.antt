@@ -12,8 +12,7 @@
 --     TreatedItems s number_for level is os c us          of the items is of a sequence os is left, one by one; their elements are on this level
 -- `number_for` gives each UID its number in the ledger; c are the four counts of what was met, and us the UIDs that were renamed, in output
 -- order.
-use Rattle.std.specs.Prelude.{◌≡◌, ◌≢◌, ◌⊎◌, true, false, List, [], ◌∷◌, ◌++◌, map, ℕ, ◌%◌, length}
-use Rattle.std.proofs.Math.Option.{none, some}
+use Rattle.std.specs.Prelude.{◌≡◌, ◌≢◌, ◌⊎◌, true, false, List, [], ◌∷◌, ◌++◌, map, ℕ, ◌%◌, length, None, Some}
 use Rattle.vr.specs.Names.{DA, DT, SQ, TM, UI}
 use Rattle.vr.specs.Vr.{served_by_lists, dummy_of}
 use Rattle.layout.specs.Tree.{Field, value, items, nil, elem, Items, none as no_item, item, Data}
@@ -58,10 +57,10 @@ pub data Renames : Action → ℕ → Type 0 where
 -- ---- list values and padding
 
 abbrev pub Listed : Settings → ℕ → ℕ → List ℕ → Type 0
-Listed s tag vr v = (served_by_lists vr ≡ true) × (asked s.study s.site tag ≡ some v)
+Listed s tag vr v = (served_by_lists vr ≡ true) × (asked s.study s.site tag ≡ Some v)
 
 abbrev pub Unlisted : Settings → ℕ → ℕ → Type 0
-Unlisted s tag vr = (served_by_lists vr ≡ false) ⊎ (asked s.study s.site tag ≡ none)
+Unlisted s tag vr = (served_by_lists vr ≡ false) ⊎ (asked s.study s.site tag ≡ None)
 
 pub data Evened (t : List ℕ) : List ℕ → Type 0 where
   even : length t % 2 ≡ 0 → Evened t t
@@ -103,12 +102,12 @@ pub data Becomes (s : Settings) (number_for : List ℕ → ℕ) (level : Level) 
   dummied_sequence : {f : Field (Unit {0})} → AsD (action_of s.options (is_top level) tag) vr → vr ≡ SQ
       → Becomes s number_for level tag vr f (items (item nil no_item)) one_replaced []
   -- U, and D on a UI: each of its UIDs renamed to the root, a dot and its number
-  renamed : {v : List ℕ} {us : List (List ℕ)} → Renames (action_of s.options (is_top level) tag) vr → vr ≡ UI → uids_of v ≡ some us
+  renamed : {v : List ℕ} {us : List (List ℕ)} → Renames (action_of s.options (is_top level) tag) vr → vr ≡ UI → uids_of v ≡ Some us
       → Becomes s number_for level tag vr (value v) (value (uids_text s.root (map number_for us))) one_renamed us
   -- C under Modified Dates' column: the dates of a DA or DT, moved
-  date : {v w : List ℕ} → action_of s.options (is_top level) tag ≡ CleanDates → vr ≡ DA → shifted_value true s.shift v ≡ some w
+  date : {v w : List ℕ} → action_of s.options (is_top level) tag ≡ CleanDates → vr ≡ DA → shifted_value true s.shift v ≡ Some w
       → Becomes s number_for level tag vr (value v) (value w) one_replaced []
-  date_time : {v w : List ℕ} → action_of s.options (is_top level) tag ≡ CleanDates → vr ≡ DT → shifted_value false s.shift v ≡ some w
+  date_time : {v w : List ℕ} → action_of s.options (is_top level) tag ≡ CleanDates → vr ≡ DT → shifted_value false s.shift v ≡ Some w
       → Becomes s number_for level tag vr (value v) (value w) one_replaced []
 
 mutual

@@ -1,10 +1,15 @@
--- The refusals: document 01, "When the station says no", in the order of its table. Every definition that refuses names one of these, and
--- the constants of `src/lib.rt` have the same names. Assumes nothing.
+-- The refusals: document 01, "When the station says no", in the order of its table. A definition that refuses names the number, or the
+-- case of the code's own enum, `Refusal` of `src/lib.rt`, that has the same name. Assumes nothing.
 --     bad_settings, bad_root, bad_count, bad_list, too_long        1 to 5: what is judged before the data set is read
 --     cut_short, bad_tag, bad_vr, bad_length, too_deep             6 to 10: faults of shape
 --     bad_uids, bad_dates                                          11 and 12: faults of values
 --     no_slot, no_room                                             13 and 14: no room for what has to be written
+--     number r                                                     the number of the refusal r
+--     as_fault r                                                   r as a fault of the whole input: its offset is 0
 use Rattle.std.specs.Prelude.{ℕ}
+use Rattle.refusals.specs.declared.Fault.{Fault}
+use Rattle.refusals.specs.declared.Refusal.{Refusal}
+use Rattle.refusals.specs.declared.Refusal.TheVariants.{BadSettings, BadRoot, BadCount, BadList, TooLong, CutShort, BadTag, BadVr, BadLength, TooDeep, BadUids, BadDates, NoSlot, NoRoom}
 
 -- the settings may not be asked for: a number with a bit of no option, both date options, a shift out of its range, or a shift without
 -- Modified Dates
@@ -62,3 +67,24 @@ no_slot = 13
 -- the output is longer than the buffer lent for it
 abbrev pub no_room : ℕ
 no_room = 14
+
+-- the number by which the table names a refusal
+abbrev pub number : Refusal → ℕ
+number BadSettings = bad_settings
+number BadRoot = bad_root
+number BadCount = bad_count
+number BadList = bad_list
+number TooLong = too_long
+number CutShort = cut_short
+number BadTag = bad_tag
+number BadVr = bad_vr
+number BadLength = bad_length
+number TooDeep = too_deep
+number BadUids = bad_uids
+number BadDates = bad_dates
+number NoSlot = no_slot
+number NoRoom = no_room
+
+-- the fault that is a refusal by the whole input: its offset is 0
+abbrev pub as_fault : Refusal → Fault
+as_fault r = record { refusal = r; offset = 0 }

@@ -2,29 +2,29 @@
 use mathlib.Core.Path.{◌≡◌, refl, sym, ap₂, ◌∙◌}
 use Prim.Native.Nat.{ℕ}
 use native.Mathlib.Omega.{arith}
+use Rattle.std.specs.Prelude.{Result as Answer, Ok, Err}
+use Rattle.refusals.specs.declared.Fault.{Fault}
 use Rattle.layout.specs.Limits.{deepest}
 use Rattle.layout.specs.Source.{Source}
 use Rattle.layout.specs.Tree.{Elements, Place}
 use Rattle.layout.specs.Read.{Result, good, fault, read, shape_of}
-use Rattle.layout.specs.declared.Shape.{Shape}
-use Rattle.layout.specs.declared.Shape.TheVariants.{Fine, Fault}
 use Rattle.treatment.specs.Settings.{Settings, settings_of, Given}
 use Rattle.treatment.specs.declared.SettingNumbers.{SettingNumbers}
 use Rattle.judge_values.specs.Judged.{WholeJudged}
 use Rattle.station.specs.Steps.{judged_as, Judged}
 
-module _ (n : SettingNumbers) (x : Source) (q : Shape) (shape : q ≡ shape_of (read deepest x)) where
-  pub judged-shape : (m offset : ℕ) → q ≡ Fault m offset → Judged n x (Fault m offset)
-  judged-shape m offset e = record { right = λ w has. step w (read deepest x) (sym e ∙ shape) }
+module _ (n : SettingNumbers) (x : Source) (q : Answer ℕ Fault) (shape : q ≡ shape_of (read deepest x)) where
+  pub judged-shape : (f : Fault) → q ≡ Err f → Judged n x (Err f)
+  judged-shape f e = record { right = λ w has. step w (read deepest x) (sym e ∙ shape) }
     where
-      step : (w : Settings) (r : Result (Elements Place)) → Fault m offset ≡ shape_of r → Fault m offset ≡ judged_as w r
+      step : (w : Settings) (r : Result (Elements Place)) → Err f ≡ shape_of r → Err f ≡ judged_as w r
       step w (good es past) e = absurd (let z : ◌≡◌ {A = ℕ} 0 1 = cc in omega arith)
       step w (fault k p) e = e
 
-  pub judged-values : (past : ℕ) → q ≡ Fine past → {r : Shape} → WholeJudged n x r → Judged n x r
+  pub judged-values : (past : ℕ) → q ≡ Ok past → {r : Answer ℕ Fault} → WholeJudged n x r → Judged n x r
   judged-values past e {r} values = record { right = λ w has. step w has (read deepest x) refl (sym e ∙ shape) }
     where
-      step : (w : Settings) → Given n w → (y : Result (Elements Place)) → read deepest x ≡ y → Fine past ≡ shape_of y → r ≡ judged_as w y
+      step : (w : Settings) → Given n w → (y : Result (Elements Place)) → read deepest x ≡ y → Ok past ≡ shape_of y → r ≡ judged_as w y
       step w has (good es p) reads f = values.right w has es p reads
       step w has (fault m k) reads f = absurd (let z : ◌≡◌ {A = ℕ} 0 1 = cc in omega arith)
 

@@ -1,7 +1,8 @@
 -- The order of the conditions, in the entry's own steps: 1 to 5, then shape and values, then 13 and 14. No contract cites this file.
 -- Assumes nothing.
 --     joined x y           the outcome x, or y where x is done
---     early_outcome n      the outcome of a number of `early`
+--     early_outcome f      the outcome of what `early` says: a refusal, or none
+--     early-refused, early-none    what `early` says, where the code answered so
 --     shape_outcome r      the outcome of a judgement of shape and values
 --     end_outcome i        the outcome by the slots and the room
 --     outcome-is-joined    the outcome is these three, one after the other
@@ -9,26 +10,29 @@ use mathlib.Core.Path.{◌≡◌, refl, sym, ap, ap₂, ◌∙◌}
 use mathlib.Core.Bool.{Bool, true, false, not, ◌&&◌, ◌||◌}
 use mathlib.Core.Logic.{◌⊎◌, inl, inr}
 use mathlib.Core.List.{List, [], ◌∷◌, ◌++◌, map}
-use mathlib.Core.Option.{Option, none, some}
-use Prim.Native.Nat.{ℕ, zero, suc, ◌≤◌}
+use Rattle.refusals.specs.declared.Fault.{Fault}
+use Rattle.refusals.specs.declared.Refusal.TheVariants.{BadSettings, BadRoot, BadCount, BadList, TooLong}
+use Rattle.refusals.specs.declared.Refusal.{Refusal}
+use Rattle.refusals.specs.Refusals.{number}
+use Rattle.std.specs.Prelude.{Option, None, Some, Result as Answer, Ok, Err}
+use Prim.Native.Nat.{ℕ, ◌≤◌}
 use native.Mathlib.Omega.{arith}
 use lib.Dec.{eqb, ltb}
 use lib.IntN.{ℤ}
 use lib.ListN.{length}
 use borrow.Author.Tests.{eqb-true, eqb-false}
 use Rattle.basis.specs.Choice.{pick, among}
+use Rattle.layout.specs.Heads.{unless}
 use Rattle.layout.specs.Limits.{deepest, longest}
 use Rattle.layout.specs.Tree.{Elements, Place}
 use Rattle.layout.specs.Read.{Result, good, fault}
-use Rattle.layout.specs.declared.Shape.{Shape}
-use Rattle.layout.specs.declared.Shape.TheVariants.{Fine, Fault}
 use Rattle.layout.proofs.MadeLaws.{read-fault}
 use Rattle.uid.specs.Uid.{is_root}
 use Rattle.ledger.specs.Slots.{slots_of}
 use Rattle.lists.specs.Lists.{list_ok}
 use Rattle.options.specs.Settings.{settings_fault}
 use Rattle.treatment.specs.declared.Level.TheVariants.{Top}
-use Rattle.kept.specs.Faults.{Fault as ValueFault, first_fault}
+use Rattle.kept.specs.Faults.{first_fault}
 use Rattle.kept.proofs.FaultsLaws.{Eleven, first_fault-number}
 use Rattle.outcome.specs.Input.{Input, read_as, tree_of, slots_after, bytes_for}
 use Rattle.outcome.specs.Conditions.{Condition, at_start, condition1, condition2, condition3, condition4, condition5, shape_condition, value_is, value_condition, condition13, condition14}
@@ -52,7 +56,7 @@ joined-joined done y z = refl
 
 -- a test with the number n that says x, and y where it does not hold
 abbrev tried : Option ℕ → ℕ → Outcome → Outcome
-tried x n y = elim x [ none ↦ y | some o ↦ refused n o ]
+tried x n y = elim x [ None ↦ y | Some o ↦ refused n o ]
 
 first_of-append : (cs ds : Tests) (i : Input) → first_of (cs ++ ds) i ≡ joined (first_of cs i) (first_of ds i)
 unfolding first_of
@@ -61,27 +65,40 @@ first_of-append (c ∷ cs) ds i = step (c.1 i) (first_of-append cs ds i)
   where
     step : (x : Option ℕ) → first_of (cs ++ ds) i ≡ joined (first_of cs i) (first_of ds i)
         → tried x c.0 (first_of (cs ++ ds) i) ≡ joined (tried x c.0 (first_of cs i)) (first_of ds i)
-    step none e = e
-    step (some o) e = refl
+    step None e = e
+    step (Some o) e = refl
 
 -- ---- 1 to 5
 
 abbrev early_tests : Tests
 early_tests = (1, condition1) ∷ (2, condition2) ∷ (3, condition3) ∷ (4, condition4) ∷ (5, condition5) ∷ []
 
-abbrev pub early_outcome : ℕ → Outcome
-early_outcome zero = done
-early_outcome (suc n) = refused (suc n) 0
+abbrev pub early_outcome : Option Refusal → Outcome
+early_outcome None = done
+early_outcome (Some r) = refused (number r) 0
 
-abbrev pub early_of : Input → ℕ
+abbrev pub early_of : Input → Option Refusal
 early_of i = early (length i.lent.bytes) i.settings i.ledger i.used
 
--- the number that the code found, for a shift that is the input's
-pub early-for : (i : Input) {shift : ℤ} → shift ≡ i.settings.shift → {n : ℕ}
-    → n ≡ early (length i.lent.bytes) (told i.settings.options shift i.settings.root i.settings.study i.settings.site) i.ledger i.used
-    → n ≡ early_of i
-early-for i e f =
-    f ∙ ap (λ z. early (length i.lent.bytes) (told i.settings.options z i.settings.root i.settings.study i.settings.site) i.ledger i.used) e
+-- what the code answered, for a shift that is the input's
+module _ (i : Input) {shift : ℤ} (same : shift ≡ i.settings.shift) {r : Answer (Unit {0}) Refusal}
+    (answered : r ≡ unless (early (length i.lent.bytes) (told i.settings.options shift i.settings.root i.settings.study i.settings.site) i.ledger i.used) tt) where
+  early-as : r ≡ unless (early_of i) tt
+  early-as = answered ∙ ap (λ z. unless (early (length i.lent.bytes) (told i.settings.options z i.settings.root i.settings.study i.settings.site) i.ledger i.used) tt) same
+
+  pub early-refused : (m : Refusal) → r ≡ Err m → early_of i ≡ Some m
+  early-refused m e = step (early_of i) (sym e ∙ early-as)
+    where
+      step : (f : Option Refusal) → Err m ≡ unless {A = Unit {0}} f tt → f ≡ Some m
+      step None q = absurd (let z : ◌≡◌ {A = ℕ} 0 1 = cc in omega arith)
+      step (Some k) q = let z : k ≡ m = cc in ap Some z
+
+  pub early-none : {u : Unit {0}} → r ≡ Ok u → early_of i ≡ None
+  early-none e = step (early_of i) (sym e ∙ early-as)
+    where
+      step : {u : Unit {0}} (f : Option Refusal) → Ok u ≡ unless {A = Unit {0}} f tt → f ≡ None
+      step None q = refl
+      step (Some k) q = absurd (let z : ◌≡◌ {A = ℕ} 0 1 = cc in omega arith)
 
 early-is : (i : Input) → first_of early_tests i ≡ early_outcome (early_of i)
 unfolding early first_of condition1 condition2 condition3 condition4 condition5
@@ -91,7 +108,7 @@ early-is i =
   where
     five : (a b c d e : Bool)
         → tried (at_start a) 1 (tried (at_start b) 2 (tried (at_start c) 3 (tried (at_start d) 4 (tried (at_start e) 5 done))))
-        ≡ early_outcome (pick a 1 (pick b 2 (pick c 3 (pick d 4 (pick e 5 0)))))
+        ≡ early_outcome (pick a (Some BadSettings) (pick b (Some BadRoot) (pick c (Some BadCount) (pick d (Some BadList) (pick e (Some TooLong) None)))))
     five true b c d e = refl
     five false true c d e = refl
     five false false true d e = refl
@@ -105,19 +122,19 @@ numbered : (ℕ → Input → Option ℕ) → List ℕ → Tests
 numbered t ns = map (λ n. (n, t n)) ns
 
 module _ (t : ℕ → Input → Option ℕ) (i : Input) where
-  none-of : ((n : ℕ) → t n i ≡ none) → (ns : List ℕ) → first_of (numbered t ns) i ≡ done
+  none-of : ((n : ℕ) → t n i ≡ None) → (ns : List ℕ) → first_of (numbered t ns) i ≡ done
   unfolding first_of numbered
   none-of e [] = refl
   none-of e (n ∷ ns) = rw (e n) (none-of e ns)
 
-  one-of : (m o : ℕ) → ((n : ℕ) → t n i ≡ pick (eqb m n) (some o) none) → (ns : List ℕ)
+  one-of : (m o : ℕ) → ((n : ℕ) → t n i ≡ pick (eqb m n) (Some o) None) → (ns : List ℕ)
       → first_of (numbered t ns) i ≡ pick (among m ns) (refused m o) done
   unfolding first_of numbered among
   one-of m o e [] = refl
   one-of m o e (n ∷ ns) = rw (e n) (step (eqb m n) refl (one-of m o e ns))
     where
       step : (b : Bool) → eqb m n ≡ b → first_of (numbered t ns) i ≡ pick (among m ns) (refused m o) done
-          → tried (pick b (some o) none) n (first_of (numbered t ns) i) ≡ pick (b || among m ns) (refused m o) done
+          → tried (pick b (Some o) None) n (first_of (numbered t ns) i) ≡ pick (b || among m ns) (refused m o) done
       step true q rest = ap (λ k. refused k o) (sym (eqb-true m n q))
       step false q rest = rest
 
@@ -145,9 +162,9 @@ unfolding among
 is-value n (inl e) = rw e
 is-value n (inr e) = rw e
 
-abbrev pub shape_outcome : Shape → Outcome
-shape_outcome (Fault n o) = refused n o
-shape_outcome (Fine past) = done
+abbrev pub shape_outcome : Answer ℕ Fault → Outcome
+shape_outcome (Err f) = refused (number f.refusal) f.offset
+shape_outcome (Ok past) = done
 
 module _ (i : Input) where
   value-is : (es : Elements Place) (past : ℕ) → read_as i ≡ good es past
@@ -155,19 +172,19 @@ module _ (i : Input) where
   unfolding value_condition tree_of
   value-is es past e = step (first_fault es i.settings Top) refl (first_fault-number es i.settings Top)
     where
-      at : (x : Option ValueFault) → first_fault es i.settings Top ≡ x → (n : ℕ) → value_condition n i ≡ value_is n x
+      at : (x : Option Fault) → first_fault es i.settings Top ≡ x → (n : ℕ) → value_condition n i ≡ value_is n x
       at x q n = rw (e, q)
 
-      step : (x : Option ValueFault) → first_fault es i.settings Top ≡ x → Eleven x
+      step : (x : Option Fault) → first_fault es i.settings Top ≡ x → Eleven x
           → first_of (numbered value_condition value_numbers) i ≡ shape_outcome (judged x past)
-      step none q w = none-of value_condition i (at none q) value_numbers
-      step (some f) q w =
-          one-of value_condition i f.number f.offset (at (some f) q) value_numbers
-          ∙ ap (λ b. pick b (refused f.number f.offset) done) (is-value f.number w)
+      step None q w = none-of value_condition i (at None q) value_numbers
+      step (Some f) q w =
+          one-of value_condition i (number f.refusal) f.offset (at (Some f) q) value_numbers
+          ∙ ap (λ b. pick b (refused (number f.refusal) f.offset) done) (is-value (number f.refusal) w)
 
-  shape-number : (n o : ℕ) → read_as i ≡ fault n o → (6 ≤ n) × (n ≤ 10) × (o ≤ length i.lent.bytes)
+  shape-number : (r : Refusal) (o : ℕ) → read_as i ≡ fault r o → (6 ≤ number r) × (number r ≤ 10) × (o ≤ length i.lent.bytes)
   unfolding read_as
-  shape-number n o e = read-fault deepest i.lent n o e
+  shape-number r o e = read-fault deepest i.lent r o e
 
   judged-is : joined (first_of (numbered shape_condition shape_numbers) i) (first_of (numbered value_condition value_numbers) i)
       ≡ shape_outcome (judged_as i.settings (read_as i))
@@ -178,9 +195,9 @@ module _ (i : Input) where
           → joined (first_of (numbered shape_condition shape_numbers) i) (first_of (numbered value_condition value_numbers) i) ≡ shape_outcome (judged_as i.settings r)
       step (good es past) e =
           ap (λ x. joined x (first_of (numbered value_condition value_numbers) i)) (none-of shape_condition i (λ n. rw e) shape_numbers) ∙ value-is es past e
-      step (fault n o) e =
+      step (fault q o) e =
           ap (λ x. joined x (first_of (numbered value_condition value_numbers) i))
-          (one-of shape_condition i n o (λ k. rw e) shape_numbers ∙ ap (λ b. pick b (refused n o) done) (is-shape n (shape-number n o e).0 (shape-number n o e).1))
+          (one-of shape_condition i (number q) o (λ k. rw e) shape_numbers ∙ ap (λ b. pick b (refused (number q) o) done) (is-shape (number q) (shape-number q o e).0 (shape-number q o e).1))
 
 -- ---- 13 and 14
 

@@ -9,8 +9,12 @@
 use mathlib.Core.Path.{◌≡◌, refl, sym, ap, ap₂, ◌∙◌}
 use mathlib.Core.Bool.{Bool, true, false}
 use mathlib.Core.List.{List, [], map}
-use mathlib.Core.Option.{Option, none, some}
-use Prim.Native.Nat.{ℕ, zero, suc, ◌*◌, ◌≤◌, ◌<◌}
+use Rattle.refusals.specs.declared.Fault.{Fault}
+use Rattle.refusals.specs.declared.Refusal.TheVariants.{NoSlot, NoRoom}
+use Rattle.refusals.specs.declared.Refusal.{Refusal}
+use Rattle.refusals.specs.Refusals.{number, as_fault}
+use Rattle.std.specs.Prelude.{Option, None, Some, Result as Answer, Ok, Err}
+use Prim.Native.Nat.{ℕ, ◌*◌, ◌≤◌, ◌<◌}
 use native.Mathlib.Omega.{arith}
 use lib.Dec.{ltb}
 use lib.ListN.{length}
@@ -20,8 +24,6 @@ use Rattle.buffer.specs.Buffer.{cleared}
 use Rattle.buffer.proofs.Laws.{cleared-laid}
 use Rattle.layout.specs.Tree.{Elements, Place}
 use Rattle.layout.specs.Read.{Result, good, fault}
-use Rattle.layout.specs.declared.Shape.{Shape}
-use Rattle.layout.specs.declared.Shape.TheVariants.{Fine, Fault}
 use Rattle.ledger.specs.Slots.{slot_size, slots_of, slot_of, flat}
 use Rattle.ledger.proofs.SlotLaws.{Sized, slots_of-fits, sized-slots_in, sized-learns, length-flat}
 use Rattle.treatment.specs.Settings.{settings_of, Given}
@@ -29,33 +31,30 @@ use Rattle.treatment.specs.declared.SettingNumbers.{SettingNumbers}
 use Rattle.treatment.specs.declared.Level.TheVariants.{Top}
 use Rattle.kept.specs.Content.{uids_in}
 use Rattle.kept.specs.Counts.{Counts, counts_of}
-use Rattle.kept.specs.Faults.{Fault as ValueFault, first_fault}
+use Rattle.kept.specs.Faults.{first_fault}
 use Rattle.kept.proofs.UidsLaws.{kept-uids, sized-uids}
 use Rattle.outcome.specs.Input.{Input, read_as, tree_in, tree_of, content, in_use, slots_after, bytes_for}
 use Rattle.outcome.specs.Outcome.{refused, done, outcome_of, Report, report_for, report_of, filled_up, output_for, output_of, ledger_for, ledger_of}
 use Rattle.judge_values.specs.Judged.{judged}
 use Rattle.write_walk.specs.Whole.{Ended, Whole}
 use Rattle.write_state.specs.declared.Progress.{Progress}
-use Rattle.write_state.specs.declared.Walk.{Walk}
-use Rattle.write_state.specs.declared.Walk.TheVariants.{Stop, To}
+use Rattle.write_state.specs.Wrote.{Walk}
 use Rattle.station.specs.Entry.{report}
 use Rattle.station.specs.Steps.{judged_as, Judged, zeroed, left, Counted, finished, finished_output, finished_ledger}
-use Rattle.station.specs.declared.HandedBack.{HandedBack}
-use Rattle.station.specs.declared.HandedBack.TheVariants.{Refused, Done}
 use Rattle.station.proofs.JudgeLaws.{given-settings}
 use Rattle.station.proofs.LeftLaws.{slots-same, left-same}
 use Rattle.station.proofs.OrderLaws.{joined, early_outcome, shape_outcome, early_of, end_outcome, outcome-is-joined}
 
-pub record Right (i : Input) (r : HandedBack) (o l : List ℕ) : Type 0 where
+pub record Right (i : Input) (r : Answer Progress Fault) (o l : List ℕ) : Type 0 where
   pub told : report i.used r ≡ report_of i
   pub output : o ≡ output_of i
   pub ledger : l ≡ ledger_of i
 
 -- a refusal, once the outcome is known to be one
-refuses : (i : Input) (n k : ℕ) → outcome_of i ≡ refused n k → (o : List ℕ) → length o ≡ i.room → {r : HandedBack} {o' l' : List ℕ}
-    → r ≡ Refused n k → o' ≡ zeroed o → l' ≡ left i.ledger i.used → Right i r o' l'
+refuses : (i : Input) (f : Fault) → outcome_of i ≡ refused (number f.refusal) f.offset → (o : List ℕ) → length o ≡ i.room → {r : Answer Progress Fault} {o' l' : List ℕ}
+    → r ≡ Err f → o' ≡ zeroed o → l' ≡ left i.ledger i.used → Right i r o' l'
 unfolding report_of output_of ledger_of
-refuses i n k a o size e zo zl = record {
+refuses i f a o size e zo zl = record {
   told = ap (report i.used) e ∙ sym (ap (report_for i) a);
   output = zo ∙ ap (λ m. filled_up m []) size ∙ sym (ap (output_for i) a);
   ledger = zl ∙ sym (ap (ledger_for i) a);
@@ -73,16 +72,16 @@ pub record Found (i : Input) : Type 0 where
   pub tree : Elements Place
   pub past : ℕ
   pub reads : read_as i ≡ good tree past
-  pub sound : first_fault tree i.settings Top ≡ none
+  pub sound : first_fault tree i.settings Top ≡ None
 
-found : (i : Input) (past : ℕ) → Fine past ≡ judged_as i.settings (read_as i) → Found i
+found : (i : Input) (past : ℕ) → Ok past ≡ judged_as i.settings (read_as i) → Found i
 found i past fine = step (read_as i) refl fine
   where
-    no-fault : (q : ℕ) (x : Option ValueFault) → Fine past ≡ judged x q → x ≡ none
-    no-fault q none e = refl
-    no-fault q (some f) e = absurd (let z : ◌≡◌ {A = ℕ} 0 1 = cc in omega arith)
+    no-fault : (q : ℕ) (x : Option Fault) → Ok past ≡ judged x q → x ≡ None
+    no-fault q None e = refl
+    no-fault q (Some f) e = absurd (let z : ◌≡◌ {A = ℕ} 0 1 = cc in omega arith)
 
-    step : (x : Result (Elements Place)) → read_as i ≡ x → Fine past ≡ judged_as i.settings x → Found i
+    step : (x : Result (Elements Place)) → read_as i ≡ x → Ok past ≡ judged_as i.settings x → Found i
     step (good es q) e f = record { tree = es; past = q; reads = e; sound = no-fault q (first_fault es i.settings Top) f }
     step (fault n k) e f = absurd (let z : ◌≡◌ {A = ℕ} 0 1 = cc in omega arith)
 
@@ -97,8 +96,8 @@ report-is : {n n' u u' : ℕ} {c c' : Counts} → n ≡ n' → u ≡ u' → c �
 report-is a b c = rw (a, b, c)
 
 module _ (i : Input) (o : List ℕ) (size : length o ≡ i.room) (fits : i.used ≤ slots_of i.ledger) (f : Found i) where
-  done-right : (past : ℕ) (t : Progress) {o₁ l₁ : List ℕ} → Ended i f.tree f.past o o₁ i.ledger l₁ 0 (To past t) → t.pos ≤ length o → outcome_of i ≡ done
-      → {r : HandedBack} {o₂ l₂ : List ℕ} → r ≡ Done t → o₂ ≡ cleared o₁ t.pos → l₂ ≡ cleared l₁ (slot_size * t.used) → Right i r o₂ l₂
+  done-right : (past : ℕ) (t : Progress) {o₁ l₁ : List ℕ} → Ended i f.tree f.past o o₁ i.ledger l₁ 0 (Some (past, t)) → t.pos ≤ length o → outcome_of i ≡ done
+      → {r : Answer Progress Fault} {o₂ l₂ : List ℕ} → r ≡ Ok t → o₂ ≡ cleared o₁ t.pos → l₂ ≡ cleared l₁ (slot_size * t.used) → Right i r o₂ l₂
   unfolding report_of output_of ledger_of
   done-right past t {o₁} {l₁} e room ok a b c =
       let pos_is : t.pos ≡ length (bytes_for i) = omega (arith, e.0) in
@@ -116,31 +115,30 @@ module _ (i : Input) (o : List ℕ) (size : length o ≡ i.room) (fits : i.used 
 
 -- ---- one step after the other
 
-module _ (i : Input) (o : List ℕ) (size : length o ≡ i.room) (n : ℕ) (first : n ≡ early_of i) where
-  early-answer : (m : ℕ) → n ≡ m → (m ≡ 0 → ⊥) → outcome_of i ≡ refused m 0
-  early-answer zero e h = absurd (h refl)
-  early-answer (suc m) e h = outcome-is-joined i ∙ ap (λ k. joined (early_outcome k) (joined (shape_outcome (judged_as i.settings (read_as i))) (end_outcome i))) (sym first ∙ e)
+module _ (i : Input) (o : List ℕ) (size : length o ≡ i.room) where
+  early-answer : (m : Refusal) → early_of i ≡ Some m → outcome_of i ≡ refused (number m) 0
+  early-answer m e = outcome-is-joined i ∙ ap (λ k. joined (early_outcome k) (joined (shape_outcome (judged_as i.settings (read_as i))) (end_outcome i))) e
 
   -- 1 to 5
-  pub refused-early : (n ≡ 0 → ⊥) → {r : HandedBack} {o' l' : List ℕ} → r ≡ Refused n 0 → o' ≡ zeroed o → l' ≡ left i.ledger i.used
+  pub refused-early : (m : Refusal) → early_of i ≡ Some m → {r : Answer Progress Fault} {o' l' : List ℕ} → r ≡ Err (as_fault m) → o' ≡ zeroed o → l' ≡ left i.ledger i.used
       → Right i r o' l'
-  refused-early h = refuses i n 0 (early-answer n refl h) o size
+  refused-early m e = refuses i (as_fault m) (early-answer m e) o size
 
-  module _ (none-early : n ≡ 0) {m : SettingNumbers} (has : Given m i.settings) {j : Shape} (judges : Judged m i.lent j) where
+  module _ (none-early : early_of i ≡ None) {m : SettingNumbers} (has : Given m i.settings) {j : Answer ℕ Fault} (judges : Judged m i.lent j) where
     judgement : j ≡ judged_as i.settings (read_as i)
     unfolding read_as
     judgement = judges.right i.settings has
 
     late-answer : outcome_of i ≡ joined (shape_outcome j) (end_outcome i)
-    late-answer = outcome-is-joined i ∙ ap₂ (λ k x. joined (early_outcome k) (joined (shape_outcome x) (end_outcome i))) (sym first ∙ none-early) (sym judgement)
+    late-answer = outcome-is-joined i ∙ ap₂ (λ k x. joined (early_outcome k) (joined (shape_outcome x) (end_outcome i))) none-early (sym judgement)
 
     -- 6 to 12
-    pub refused-judged : (m k : ℕ) → j ≡ Fault m k → {r : HandedBack} {o' l' : List ℕ} → r ≡ Refused m k → o' ≡ zeroed o
+    pub refused-judged : (f : Fault) → j ≡ Err f → {r : Answer Progress Fault} {o' l' : List ℕ} → r ≡ Err f → o' ≡ zeroed o
         → l' ≡ left i.ledger i.used → Right i r o' l'
-    refused-judged m k e = refuses i m k (late-answer ∙ ap (λ x. joined (shape_outcome x) (end_outcome i)) e) o size
+    refused-judged f e = refuses i f (late-answer ∙ ap (λ x. joined (shape_outcome x) (end_outcome i)) e) o size
 
     -- 13, 14, or done
-    module _ (past : ℕ) (fine : j ≡ Fine past) (fits : i.used ≤ slots_of i.ledger) {l₁ o₁ : List ℕ} {walk : Walk}
+    module _ (past : ℕ) (fine : j ≡ Ok past) (fits : i.used ≤ slots_of i.ledger) {l₁ o₁ : List ℕ} {walk : Walk}
         (whole : Whole (settings_of m i.settings.root i.settings.study i.settings.site) i.lent i.ledger l₁ i.used o o₁ 0 walk) where
       end-answer : outcome_of i ≡ end_outcome i
       end-answer = late-answer ∙ ap (λ x. joined (shape_outcome x) (end_outcome i)) fine
@@ -157,13 +155,13 @@ module _ (i : Input) (o : List ℕ) (size : length o ≡ i.room) (n : ℕ) (firs
       counted = step walk ended
         where
           step : (w : Walk) → Ended i read-so.tree read-so.past o o₁ i.ledger l₁ 0 w → Counted l₁ w
-          step Stop e = tt
-          step (To p t) e = omega (arith, e.5, slots-same i.ledger l₁ whole.ledger_size)
+          step None e = tt
+          step (Some (p, t)) e = omega (arith, e.5, slots-same i.ledger l₁ whole.ledger_size)
 
       again : left l₁ i.used ≡ left i.ledger i.used
       again = left-same i.ledger l₁ i.used whole.ledger_size whole.slots_kept fits
 
-      pub walk-right : (r : HandedBack) (o₂ l₂ : List ℕ) → r ≡ finished o₁ walk → o₂ ≡ finished_output o₁ walk → l₂ ≡ finished_ledger o₁ l₁ i.used walk
+      pub walk-right : (r : Answer Progress Fault) (o₂ l₂ : List ℕ) → r ≡ finished o₁ walk → o₂ ≡ finished_output o₁ walk → l₂ ≡ finished_ledger o₁ l₁ i.used walk
           → Right i r o₂ l₂
       walk-right r o₂ l₂ = by-walk walk ended
         where
@@ -172,16 +170,16 @@ module _ (i : Input) (o : List ℕ) (size : length o ≡ i.room) (n : ℕ) (firs
 
           by-walk : (w : Walk) → Ended i read-so.tree read-so.past o o₁ i.ledger l₁ 0 w → r ≡ finished o₁ w → o₂ ≡ finished_output o₁ w
               → l₂ ≡ finished_ledger o₁ l₁ i.used w → Right i r o₂ l₂
-          by-walk Stop e a b c = refuses i 13 0 (full e) o₁ (whole.out_size ∙ size) a b (c ∙ again)
-          by-walk (To p t) e a b c = by-room (ltb (length o₁) t.pos) refl a b c
+          by-walk None e a b c = refuses i (as_fault NoSlot) (full e) o₁ (whole.out_size ∙ size) a b (c ∙ again)
+          by-walk (Some (p, t)) e a b c = by-room (ltb (length o₁) t.pos) refl a b c
             where
               free : length (slots_after i) ≤ slots_of i.ledger
               free = omega (arith, e.2, e.5)
 
-              by-room : (v : Bool) → ltb (length o₁) t.pos ≡ v → r ≡ pick v (Refused 14 0) (Done t) → o₂ ≡ pick v (zeroed o₁) (cleared o₁ t.pos)
+              by-room : (v : Bool) → ltb (length o₁) t.pos ≡ v → r ≡ pick v (Err (as_fault NoRoom)) (Ok t) → o₂ ≡ pick v (zeroed o₁) (cleared o₁ t.pos)
                   → l₂ ≡ pick v (left l₁ i.used) (cleared l₁ (slot_size * t.used)) → Right i r o₂ l₂
               by-room true q a b c =
-                  refuses i 14 0
+                  refuses i (as_fault NoRoom)
                   (end-answer ∙ rw (le-ltb (slots_of i.ledger) (length (slots_after i)) free, lt-ltb i.room (length (bytes_for i)) (omega (arith, ltb-true (length o₁) t.pos q, e.0, whole.out_size))))
                   o₁ (whole.out_size ∙ size) a b (c ∙ again)
               by-room false q a b c =

@@ -4,26 +4,20 @@
 #![tactic(auto)]
 
 ghost use Rattle.std.specs.Prelude.{◌≡◌, length};
+ghost use Rattle.layout.specs.Heads.{unless};
 ghost use Rattle.layout.specs.Source.{explicitly};
 ghost use Rattle.table.specs.Rows.{table};
 ghost use Rattle.outcome.specs.Outcome.{report_of, output_of, ledger_of};
 ghost use Rattle.station.specs.Entry.{told, input_of, report};
 ghost use Rattle.station.specs.Steps.{early, Judged, left, zeroed, Counted, finished, finished_output, finished_ledger};
 
-use layout::Shape;
-use treatment::SettingNumbers;
-use write_state::{Progress, Walk};
+use refusals::{Fault, Refusal};
+use treatment::{SettingNumbers, SettingTexts};
+use write_state::Progress;
 
-// What a run hands back.
-#[derive(Clone, Copy)]
-pub enum HandedBack {
-    // a refusal: its number and its offset
-    Refused(u8, usize),
-    // done: the length written, the new count in use and the four counts
-    Done(Progress),
-}
-
-// The number of the first of the conditions 1 to 5 that holds of an input of `len` bytes, or 0.
+// The first of the conditions 1 to 5 that holds of an input of `len` bytes, or none. The settings come one by one, here and in `deidentify`,
+// as C hands them: only what passes here is a `SettingNumbers`.
+#[tactic(auto, unfolding(crate::specs::Steps::early))]
 pub fn early_refusal(
     len: usize,
     options: u64,
@@ -33,51 +27,44 @@ pub fn early_refusal(
     site: &[u8],
     ledger: &[u8],
     used: usize,
-) -> u8
-    ensures { result ≡ early len (told options shift root.now study.now site.now) ledger.now used }
+) -> Result<(), Refusal>
+    ensures { result ≡ unless (early len (told options shift root.now study.now site.now) ledger.now used) tt }
 {
     if options::settings_fault(options, shift) {
-        return refusals::BAD_SETTINGS;
+        return Err(Refusal::BadSettings);
     }
     if !uid::is_root(root) {
-        return refusals::BAD_ROOT;
+        return Err(Refusal::BadRoot);
     }
     if ledger::slots(ledger) < used {
-        return refusals::BAD_COUNT;
+        return Err(Refusal::BadCount);
     }
-    if !lists::list_ok(study) {
-        return refusals::BAD_LIST;
-    }
-    if !lists::list_ok(site) {
-        return refusals::BAD_LIST;
+    if !lists::list_ok(study) || !lists::list_ok(site) {
+        return Err(Refusal::BadList);
     }
     if layout::LONGEST < len {
-        return refusals::TOO_LONG;
+        return Err(Refusal::TooLong);
     }
-    0
+    Ok(())
 }
 
-// The first fault of shape (6 to 10), else the first among the values (11 and 12), or none.
-pub fn judge(rows: &[u64], n: SettingNumbers, lent: &[u8]) -> Shape
+// The first fault of shape (6 to 10), else the first among the values (11 and 12), or the place past the data set.
+pub fn judge(rows: &[u64], n: SettingNumbers, lent: &[u8]) -> Result<usize, Fault>
     requires { rows.now ≡ table }
     ensures { Judged n (explicitly lent.now) result }
 {
-    let shape = layout::shape_of(lent);
-    match shape {
-        Shape::Fault(number, offset) => Shape::Fault(number, offset),
-        Shape::Fine(_) => judge_values::first_fault(rows, n, lent),
-    }
+    layout::shape_of(lent)?;
+    judge_values::first_fault(rows, n, lent)
 }
 
 // A refusal: nothing of the output is left, and of the ledger the slots in use; where there are fewer slots than that, it is left alone.
 pub fn refuse(
-    number: u8,
-    offset: usize,
+    fault: Fault,
     ledger: &mut [u8],
     used: usize,
     out: &mut [u8],
-) -> HandedBack
-    ensures answer { result ≡ HandedBack.Refused number offset }
+) -> Result<Progress, Fault>
+    ensures answer { result ≡ Err fault }
     ensures output { out.new ≡ zeroed out.old }
     ensures ledger { ledger.new ≡ left ledger.old used }
 {
@@ -85,31 +72,34 @@ pub fn refuse(
     if used <= ledger::slots(ledger) {
         ledger::zero_rest(ledger, used);
     }
-    HandedBack::Refused(number, offset)
+    Err(fault)
 }
 
 // After the walk that writes: no slot for a UID (13), no room for the output (14), or done.
-pub fn finish(walk: Walk, ledger: &mut [u8], used: usize, out: &mut [u8]) -> HandedBack
+pub fn finish(
+    walk: Option<(usize, Progress)>,
+    ledger: &mut [u8],
+    used: usize,
+    out: &mut [u8],
+) -> Result<Progress, Fault>
     requires { Counted ledger.old walk }
     ensures answer { result ≡ finished out.old walk }
     ensures output { out.new ≡ finished_output out.old walk }
     ensures ledger { ledger.new ≡ finished_ledger out.old ledger.old used walk }
 {
-    match walk {
-        Walk::Stop => refuse(refusals::NO_SLOT, 0, ledger, used, out),
-        Walk::To(_, t) => {
-            let pos = t.pos;
-            if out.len() < pos {
-                return refuse(refusals::NO_ROOM, 0, ledger, used, out);
-            }
-            buffer::zero_from(out, pos);
-            ledger::zero_rest(ledger, t.used);
-            HandedBack::Done(t)
-        }
+    let Some((_, t)) = walk else {
+        return refuse(Refusal::NoSlot.as_fault(), ledger, used, out);
+    };
+    let pos = t.pos;
+    if out.len() < pos {
+        return refuse(Refusal::NoRoom.as_fault(), ledger, used, out);
     }
+    buffer::zero_from(out, pos);
+    ledger::zero_rest(ledger, t.used);
+    Ok(t)
 }
 
-// The station, for all inputs.
+// The station, for all inputs: how far the walk came, or why the input is refused.
 pub fn deidentify<'a>(
     lent: &[u8],
     options: u64,
@@ -120,27 +110,25 @@ pub fn deidentify<'a>(
     ledger: &mut [u8],
     used: usize,
     out: &mut [u8],
-) -> HandedBack
+) -> Result<Progress, Fault>
     ensures answer { report used result ≡ report_of (input_of (explicitly lent.now) (told options shift root.now study.now site.now) ledger.old used (length out.old)) }
     ensures output { out.new ≡ output_of (input_of (explicitly lent.now) (told options shift root.now study.now site.now) ledger.old used (length out.old)) }
     ensures ledger { ledger.new ≡ ledger_of (input_of (explicitly lent.now) (told options shift root.now study.now site.now) ledger.old used (length out.old)) }
 {
-    let early = early_refusal(lent.len(), options, shift, root, study, site, ledger, used);
-    if early != 0 {
-        return refuse(early, 0, ledger, used, out);
-    }
-    let days = options::days_of(shift);
-    let n = SettingNumbers {
-        options: options,
-        days: days,
-    };
-    let rows = table::rows();
-    let judged = judge(&rows, n, lent);
-    match judged {
-        Shape::Fault(number, offset) => refuse(number, offset, ledger, used, out),
-        Shape::Fine(_) => {
-            let walk = write_walk::write(&rows, n, root, study, site, lent, ledger, used, out, 0);
-            finish(walk, ledger, used, out)
+    match early_refusal(lent.len(), options, shift, root, study, site, ledger, used) {
+        Err(refusal) => refuse(refusal.as_fault(), ledger, used, out),
+        Ok(()) => {
+            let days = options::days_of(shift);
+            let n = SettingNumbers { options, days };
+            let rows = table::rows();
+            match judge(&rows, n, lent) {
+                Err(fault) => refuse(fault, ledger, used, out),
+                Ok(_) => {
+                    let texts = SettingTexts { root, study, site };
+                    let walk = write_walk::write(&rows, n, texts, lent, ledger, used, out, 0);
+                    finish(walk, ledger, used, out)
+                }
+            }
         }
     }
 }

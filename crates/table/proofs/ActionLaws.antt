@@ -1,7 +1,6 @@
 -- Laws of `specs/Action.antt`. What is said of an option is said once, over its bit. No contract cites this file. Assumes nothing.
 --     letter_for-action_for                              a letter's action has that letter
---     action_for-else                                    what is none of the other letters is K
---     on_row-none, on_row-dates, on_row-letter           one for each branch of `on_row`
+--     on_row-dates, on_row-letter                        one for each branch of `on_row`
 --     on_row-clean, on_row-keep, on_row-basic            8th sentence: C wins; K overrides; else the basic action
 --     on_row-same, on_row-unchosen                       rows with the same basic action and the same letters for the chosen options order the same
 --     action_of-ruled, action_of-row, action_of-found    a rule decides; else the row; and where there is a row, the row
@@ -14,15 +13,16 @@
 use mathlib.Core.Path.{◌≡◌, refl, sym, ap, ◌∙◌}
 use mathlib.Core.Bool.{Bool, true, false, false≢true}
 use mathlib.Core.List.{[], ◌∷◌}
+use Rattle.std.specs.Prelude.{Option, None, Some}
 use Prim.Native.Nat.{ℕ, ◌<◌}
 use lib.Dec.{T, eqb, eqb→eq, lit<}
 use borrow.Author.Tests.{ne_eqb}
 use Rattle.basis.specs.Choice.{pick, fork, every, among}
 use Rattle.basis.specs.Bytes.{has_bit}
-use Rattle.table.specs.Table.{no_letter, X, Z, U, K, C, D, basic_of, letter_of, no_row, row_of, legal}
+use Rattle.table.specs.Table.{no_letter, X, Z, U, K, C, D, basic_of, letter_of, row_of, legal}
 use Rattle.table.specs.Rules.{reserved, ruled}
 use Rattle.table.specs.Override.{option_count, modified_dates, given, over, overriding, cleans_dates}
-use Rattle.table.specs.Action.{letter_for, action_for, on_row, action_of}
+use Rattle.table.specs.Action.{letter_for, action_for, on_row, ordered, action_of}
 use Rattle.table.specs.declared.Action.{Action}
 use Rattle.table.specs.declared.Action.TheVariants.{Remove, Keep, Empty, Dummy, Rename, Clean, CleanDates}
 use Rattle.table.proofs.Truth.{every-among, pick-left}
@@ -35,11 +35,6 @@ pub letter_for-action_for : (letter : ℕ) → T (among letter (X ∷ Z ∷ D �
 unfolding action_for every
 letter_for-action_for letter t =
     eqb→eq _ _ (every-among (λ letter. eqb (letter_for (action_for letter)) letter) (X ∷ Z ∷ D ∷ U ∷ K ∷ C ∷ []) tt letter t)
-
-pub action_for-else : (letter : ℕ) → (letter ≡ X → ⊥) → (letter ≡ Z → ⊥) → (letter ≡ D → ⊥) → (letter ≡ U → ⊥) → (letter ≡ C → ⊥)
-    → action_for letter ≡ Keep
-unfolding action_for
-action_for-else letter x z d u c = rw (ne_eqb _ _ x, ne_eqb _ _ z, ne_eqb _ _ d, ne_eqb _ _ u, ne_eqb _ _ c)
 
 abbrev is_clean_dates : Action → Bool
 is_clean_dates Remove = false
@@ -69,37 +64,33 @@ action_for-plain letter =
 
 -- ---- on_row
 
-pub on_row-none : (options : ℕ) → on_row options no_row ≡ Keep
-unfolding on_row
-on_row-none options = refl
-
-pub on_row-same : (o p r s : ℕ) → eqb r no_row ≡ eqb s no_row → basic_of r ≡ basic_of s
+pub on_row-same : (o p r s : ℕ) → basic_of r ≡ basic_of s
     → ((bit : ℕ) → bit < option_count → given o r bit ≡ given p s bit) → on_row o r ≡ on_row p s
 unfolding on_row
-on_row-same o p r s e b g = rw (e, b, g modified_dates (lit< tt), overriding-same o p r s option_count g)
+on_row-same o p r s b g = rw (b, g modified_dates (lit< tt), overriding-same o p r s option_count g)
 
-pub on_row-unchosen : (options r s : ℕ) → eqb r no_row ≡ eqb s no_row → basic_of r ≡ basic_of s
+pub on_row-unchosen : (options r s : ℕ) → basic_of r ≡ basic_of s
     → ((bit : ℕ) → bit < option_count → has_bit options bit ≡ true → letter_of r bit ≡ letter_of s bit) → on_row options r ≡ on_row options s
-on_row-unchosen options r s e b g =
-    on_row-same options options r s e b (λ bit l. pick-left (has_bit options bit) (letter_of r bit) (letter_of s bit) no_letter (g bit l))
+on_row-unchosen options r s b g =
+    on_row-same options options r s b (λ bit l. pick-left (has_bit options bit) (letter_of r bit) (letter_of s bit) no_letter (g bit l))
 
 on_row-plain : (options row : ℕ) → has_bit options modified_dates ≡ false → is_clean_dates (on_row options row) ≡ false
 unfolding on_row
-on_row-plain options row e = pick-is is_clean_dates (eqb row no_row) _ _ refl (rw e (action_for-plain _))
+on_row-plain options row e = rw e (action_for-plain _)
 
-module _ (options row : ℕ) (is : row ≡ no_row → ⊥) where
+module _ (options row : ℕ) where
   pub on_row-dates : given options row modified_dates ≡ C → on_row options row ≡ CleanDates
   unfolding on_row
-  on_row-dates e = rw (ne_eqb row no_row is, e)
+  on_row-dates e = rw e
 
   pub on_row-letter : cleans_dates options row ≡ false → {letter : ℕ} → letter ≡ overriding options row option_count
       → on_row options row ≡ action_for (over (basic_of row) letter)
   unfolding on_row
-  on_row-letter e f = rw (ne_eqb row no_row is, e, f)
+  on_row-letter e f = rw (e, f)
 
   pub on_row-clean : (bit : ℕ) → bit < option_count → given options row bit ≡ C → letter_for (on_row options row) ≡ C
   unfolding on_row action_for
-  on_row-clean bit l e = rw (ne_eqb row no_row is, overriding-clean options row option_count bit l e) (go (cleans_dates options row))
+  on_row-clean bit l e = rw (overriding-clean options row option_count bit l e) (go (cleans_dates options row))
     where
       go : (b : Bool) → letter_for (pick b CleanDates Clean) ≡ C
       go true = refl
@@ -107,13 +98,24 @@ module _ (options row : ℕ) (is : row ≡ no_row → ⊥) where
 
   pub on_row-basic : ((bit : ℕ) → bit < option_count → given options row bit ≡ no_letter) → on_row options row ≡ action_for (basic_of row)
   unfolding on_row
-  on_row-basic e = rw (ne_eqb row no_row is, e modified_dates (lit< tt), overriding-none options row option_count e)
+  on_row-basic e = rw (e modified_dates (lit< tt), overriding-none options row option_count e)
 
   pub on_row-keep : (bit : ℕ) → T (legal row) → bit < option_count → given options row bit ≡ K
       → ((other : ℕ) → other < option_count → given options row other ≡ C → ⊥) → on_row options row ≡ Keep
   unfolding on_row action_for
   on_row-keep bit t l e n =
-      rw (ne_eqb row no_row is, ne_eqb (given options row modified_dates) C (n modified_dates (lit< tt)), overriding-keep options row bit t l e n)
+      rw (ne_eqb (given options row modified_dates) C (n modified_dates (lit< tt)), overriding-keep options row bit t l e n)
+
+-- ---- ordered
+
+ordered-same : (o p : ℕ) → ((bit : ℕ) → bit < option_count → has_bit o bit ≡ has_bit p bit) → (row : Option ℕ) → ordered o row ≡ ordered p row
+ordered-same o p e None = refl
+ordered-same o p e (Some row) =
+    on_row-same o p row row refl (λ bit l. ap (λ (b : Bool). pick b (letter_of row bit) no_letter) (e bit l))
+
+ordered-plain : (options : ℕ) → has_bit options modified_dates ≡ false → (row : Option ℕ) → is_clean_dates (ordered options row) ≡ false
+ordered-plain options e None = refl
+ordered-plain options e (Some row) = on_row-plain options row e
 
 -- ---- action_of
 
@@ -122,21 +124,21 @@ module _ (options : ℕ) (top : Bool) (tag : ℕ) where
   unfolding action_of
   action_of-ruled e = rw e
 
-  pub action_of-row : ruled top tag ≡ false → action_of options top tag ≡ on_row options (row_of tag)
+  pub action_of-row : ruled top tag ≡ false → action_of options top tag ≡ ordered options (row_of tag)
   unfolding action_of
   action_of-row e = rw e
 
   -- K where no rule and no row speaks
-  pub action_of-rowless : ruled top tag ≡ false → row_of tag ≡ no_row → action_of options top tag ≡ Keep
-  action_of-rowless e n = action_of-row e ∙ ap (on_row options) n ∙ on_row-none options
+  pub action_of-rowless : ruled top tag ≡ false → row_of tag ≡ None → action_of options top tag ≡ Keep
+  action_of-rowless e n = action_of-row e ∙ ap (ordered options) n
 
   -- where there is a row, it decides: no rule speaks of its tag
-  pub action_of-found : (row_of tag ≡ no_row → ⊥) → action_of options top tag ≡ on_row options (row_of tag)
-  action_of-found n = action_of-row (row_of-unruled top tag n)
+  pub action_of-found : (row : ℕ) → row_of tag ≡ Some row → action_of options top tag ≡ on_row options row
+  action_of-found row is = action_of-row (row_of-unruled top tag row is) ∙ ap (ordered options) is
 
-pub action_of-basic : (top : Bool) (tag : ℕ) → (row_of tag ≡ no_row → ⊥) → action_of 0 top tag ≡ action_for (basic_of (row_of tag))
-action_of-basic top tag n =
-    action_of-found 0 top tag n ∙ on_row-basic 0 (row_of tag) n (λ bit _. given-unchosen 0 (row_of tag) bit (has_bit-zero bit))
+pub action_of-basic : (top : Bool) (tag row : ℕ) → row_of tag ≡ Some row → action_of 0 top tag ≡ action_for (basic_of row)
+action_of-basic top tag row is =
+    action_of-found 0 top tag row is ∙ on_row-basic 0 row (λ bit _. given-unchosen 0 row bit (has_bit-zero bit))
 
 pub reserved-removed : (options tag : ℕ) → among tag reserved ≡ true → action_of options true tag ≡ Remove
 reserved-removed options tag e = action_of-ruled options true tag (ruled-reserved tag e)
@@ -154,12 +156,11 @@ action_of-level options false tag e = refl
 pub action_of-chosen : (o p : ℕ) (top : Bool) (tag : ℕ) → ((bit : ℕ) → bit < option_count → has_bit o bit ≡ has_bit p bit)
     → action_of o top tag ≡ action_of p top tag
 unfolding action_of
-action_of-chosen o p top tag e =
-    rw (on_row-same o p (row_of tag) (row_of tag) refl refl (λ bit l. ap (λ (b : Bool). pick b (letter_of (row_of tag) bit) no_letter) (e bit l)))
+action_of-chosen o p top tag e = ap (λ (a : Action). fork (ruled top tag) (λ _. Remove) (λ _. a)) (ordered-same o p e (row_of tag))
 
 -- without Modified Dates no action is its C
 pub action_of-dates : (options : ℕ) (top : Bool) (tag : ℕ) → has_bit options modified_dates ≡ false → action_of options top tag ≡ CleanDates → ⊥
 unfolding action_of
 action_of-dates options top tag e f =
-    let plain = fork-is is_clean_dates (ruled top tag) (λ _. Remove) (λ _. on_row options (row_of tag)) refl (on_row-plain options (row_of tag) e) in
+    let plain = fork-is is_clean_dates (ruled top tag) (λ _. Remove) (λ _. ordered options (row_of tag)) refl (ordered-plain options e (row_of tag)) in
     false≢true (sym plain ∙ ap is_clean_dates f)

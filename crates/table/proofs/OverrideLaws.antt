@@ -1,18 +1,17 @@
 -- Laws of `specs/Override.antt`. What is said of an option is said once, over its bit. No contract cites this file. Assumes nothing.
 --     has_bit-zero                                 the option number 0 chooses none
 --     given-unchosen, given-legal                  an option that is not chosen gives none; one that is gives K, C or none
---     over-none, over-some                         one for each branch of `over`
 --     place-next                                   dividing once more brings the next place lowest
 --     overriding-chosen, overriding-unchosen       one option more
 --     overriding-same                              options that give the same, bit by bit, give the same together
 --     overriding-none                              none where no option gives a letter
 --     overriding-clean, overriding-keep            C where one gives C; K where one gives K and none gives C
---     cleans_dates-chosen                          with Modified Dates chosen its column decides
 --     row_of-dates                                 A7: no row has C in Modified Dates' column and in another
 use mathlib.Core.Path.{◌≡◌, refl, sym, ◌∙◌}
 use mathlib.Core.Logic.{⊎_elim}
 use mathlib.Core.Bool.{Bool, true, false, not, ◌||◌, or-false}
 use mathlib.Core.List.{List, [], ◌∷◌}
+use Rattle.std.specs.Prelude.{Some}
 use Prim.Native.Nat.{ℕ, zero, suc, ◌+◌, ◌/◌, ◌%◌, ◌^◌, ◌<◌}
 use native.Mathlib.Nat.{le_of_suc-le-suc, not-suc-le-zero, eq-or-lt_of_le, zero-div, div-div-eq-div-mul, pow-suc, le_refl, le_step}
 use native.Mathlib.Numerals.{add-one}
@@ -22,8 +21,8 @@ use borrow.Author.Tests.{eq-eqb, ne_eqb, eqb-true}
 use Rattle.basis.specs.Choice.{pick, every, among}
 use Rattle.basis.specs.Bytes.{has_bit}
 use Rattle.table.specs.Rows.{table}
-use Rattle.table.specs.Table.{no_letter, K, C, overrides, letter_of, columns, no_row, row_of, legal}
-use Rattle.table.specs.Override.{option_count, modified_dates, given, over, stronger, overriding, cleans_dates}
+use Rattle.table.specs.Table.{no_letter, K, C, overrides, letter_of, columns, row_of, legal}
+use Rattle.table.specs.Override.{option_count, modified_dates, given, stronger, overriding}
 use Rattle.table.proofs.Truth.{every-at, every-among}
 use Rattle.table.proofs.TableLaws.{row_of-every, columns-at, legal-letter}
 
@@ -45,14 +44,6 @@ given-legal options row bit t h = go (has_bit options bit)
     go : (b : Bool) → T (among (pick b (letter_of row bit) no_letter) overrides)
     go true = legal-letter row bit t (le_step h)
     go false = tt
-
--- ---- over
-
-pub over-none : (letter : ℕ) {next : ℕ} → next ≡ no_letter → over letter next ≡ letter
-over-none letter e = rw e
-
-pub over-some : (letter : ℕ) {next : ℕ} → (next ≡ no_letter → ⊥) → over letter next ≡ next
-over-some letter {next} n = rw (ne_eqb next no_letter n)
 
 -- ---- stronger
 
@@ -157,9 +148,6 @@ module _ (options row : ℕ) where
 
 -- ---- cleans_dates
 
-pub cleans_dates-chosen : (options row : ℕ) → options / 2 % 2 ≡ 1 → eqb (row / 16 % 16) C ≡ cleans_dates options row
-cleans_dates-chosen options row e = rw (eq-eqb (options / 2 % 2) 1 e)
-
 -- A7: beside Modified Dates' C the other columns have none
 abbrev alone : ℕ → Bool
 alone row = not (eqb (letter_of row modified_dates) C) || every (λ bit. eqb bit modified_dates || not (eqb (letter_of row bit) C)) columns
@@ -176,6 +164,6 @@ every-alone : T (every alone table)
 unfolding table every
 every-alone = tt
 
-pub row_of-dates : (tag bit : ℕ) → bit < length columns → (row_of tag ≡ no_row → ⊥)
-    → letter_of (row_of tag) modified_dates ≡ C → letter_of (row_of tag) bit ≡ C → bit ≡ modified_dates
-row_of-dates tag bit h n e f = alone-at (row_of tag) bit h (row_of-every alone every-alone tag n).1 e f
+pub row_of-dates : (tag row bit : ℕ) → bit < length columns → row_of tag ≡ Some row
+    → letter_of row modified_dates ≡ C → letter_of row bit ≡ C → bit ≡ modified_dates
+row_of-dates tag row bit h is e f = alone-at row bit h (row_of-every alone every-alone tag row is).1 e f

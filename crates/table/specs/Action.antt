@@ -2,11 +2,12 @@
 -- `Rules.antt`, the options in `Override.antt`. Laws: `proofs/ActionLaws.antt`. Assumes nothing.
 --     letter_for action            document 01's letter for each case of `Action` in `src/lib.rt`; Clean and CleanDates are both C
 --     action_for letter            the action for a letter on a row
---     on_row options row           the action that a row orders; K for no_row
+--     on_row options row           the action that a row orders
+--     ordered options row          the same, and K where there is no row
 --     action_of options top tag    the action, at the top level or, where top is false, in an item
-use Rattle.std.specs.Prelude.{Bool, ℕ, eqb}
+use Rattle.std.specs.Prelude.{Bool, ℕ, eqb, Option, None, Some}
 use Rattle.basis.specs.Choice.{pick, fork}
-use Rattle.table.specs.Table.{X, Z, U, K, C, D, basic_of, no_row, row_of}
+use Rattle.table.specs.Table.{X, Z, U, K, C, D, basic_of, row_of}
 use Rattle.table.specs.Rules.{ruled}
 use Rattle.table.specs.Override.{option_count, over, overriding, cleans_dates}
 use Rattle.table.specs.declared.Action.{Action}
@@ -30,14 +31,17 @@ action_for letter =
     (pick (eqb letter C) Clean
     Keep))))
 
--- Document 01, Which action, 5th and 8th sentence: a tag with no row is K; Modified Dates' own C comes next (A7); then the letter of the chosen
--- options over the basic action
+-- Document 01, Which action, 8th sentence: Modified Dates' own C comes first (A7); then the letter of the chosen options over the basic action
 unfoldable pub on_row : ℕ → ℕ → Action
 on_row options row =
-    pick (eqb row no_row) Keep
-    (pick (cleans_dates options row) CleanDates
-    (action_for (over (basic_of row) (overriding options row option_count))))
+    pick (cleans_dates options row) CleanDates
+    (action_for (over (basic_of row) (overriding options row option_count)))
+
+-- 5th sentence: a tag with no row is K
+abbrev pub ordered : ℕ → Option ℕ → Action
+ordered options None = Keep
+ordered options (Some row) = on_row options row
 
 -- 2nd to 4th sentence: what a rule speaks of is X, before any row is asked (A1)
 unfoldable pub action_of : ℕ → Bool → ℕ → Action
-action_of options top tag = fork (ruled top tag) (λ _. Remove) (λ _. on_row options (row_of tag))
+action_of options top tag = fork (ruled top tag) (λ _. Remove) (λ _. ordered options (row_of tag))

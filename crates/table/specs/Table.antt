@@ -7,12 +7,12 @@
 --     letter_of row bit      the letter in the column of the option of that bit
 --     columns                the bits that have a column: 0 Full Dates, 1 Modified Dates, 2 Patient Characteristics, 3 Device Identity,
 --                            4 Retain UIDs, 5 Institution Identity, and 6 Clean Descriptors, which is not offered yet (A18)
---     row_in tag rows        the first of the rows with that tag, or no_row
---     row_of tag             the table's row of that tag, or no_row where the table has none
+--     row_in tag rows        the first of the rows with that tag, if there is one
+--     row_of tag             the table's row of that tag, if it has one
 --     rising last rows       a test: the tags of the rows rise strictly, and the first is above last
 --     basics, overrides      the letters that a basic action, and an option's column, may have
 --     legal row              a test: the row has no other letters
-use Rattle.std.specs.Prelude.{Bool, true, ◌&&◌, List, [], ◌∷◌, ℕ, ◌/◌, ◌%◌, ◌^◌, eqb, ltb}
+use Rattle.std.specs.Prelude.{Bool, true, ◌&&◌, List, [], ◌∷◌, ℕ, ◌/◌, ◌%◌, ◌^◌, eqb, ltb, Option, None, Some}
 use Rattle.basis.specs.Choice.{fork, every, among}
 use Rattle.table.specs.Rows.{table}
 
@@ -50,15 +50,11 @@ letter_of row bit = row / 16 ^ bit % 16
 abbrev pub columns : List ℕ
 columns = 0 ∷ 1 ∷ 2 ∷ 3 ∷ 4 ∷ 5 ∷ 6 ∷ []
 
--- No row is 0, since every tag of the table is above 0
-abbrev pub no_row : ℕ
-no_row = 0
+unfoldable pub row_in : ℕ → List ℕ → Option ℕ
+row_in tag [] = None
+row_in tag (row ∷ rows) = fork (eqb (tag_of row) tag) (λ _. Some row) (λ _. row_in tag rows)
 
-unfoldable pub row_in : ℕ → List ℕ → ℕ
-row_in tag [] = no_row
-row_in tag (row ∷ rows) = fork (eqb (tag_of row) tag) (λ _. row) (λ _. row_in tag rows)
-
-abbrev pub row_of : ℕ → ℕ
+abbrev pub row_of : ℕ → Option ℕ
 row_of tag = row_in tag table
 
 -- The same sentence: the rows rise strictly by tag

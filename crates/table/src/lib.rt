@@ -13,7 +13,7 @@ ghost use Rattle.table.specs.Action.{action_for, on_row, action_of};
 mod e1_1;
 
 // What is done with an element. `letter_for` of specs/Action.antt gives document 01's letter for each.
-#[derive(Clone, Copy)]
+#[derive(Clone, Copy, Debug, PartialEq, Eq)]
 pub enum Action {
     // X
     Remove,
@@ -31,7 +31,8 @@ pub enum Action {
     CleanDates,
 }
 
-// The letters as digits of a row. What is no other letter is K.
+// The letters as digits of a row. What is no other letter is K. They stay numbers, as in specs/Table.antt: an enum would be no plainer, since
+// each function here would need a second word that ties its letters to the row's digits.
 const NO_LETTER: u64 = 0x0;
 
 const X: u64 = 0x1;
@@ -43,8 +44,6 @@ const U: u64 = 0x3;
 const C: u64 = 0xC;
 
 const D: u64 = 0xD;
-
-const NO_ROW: u64 = 0;
 
 // What a row is divided by to bring a digit, the basic action or the tag to its lowest place.
 const DIGIT: u64 = 16;
@@ -67,101 +66,64 @@ pub const LONGITUDINAL_TIME: u64 = 0x0028_0303;
 
 const OPTION_COUNT: u64 = 6;
 
-// The whole table, to be made once and lent.
+// The whole table, to be made once and lent. It is lent as a slice: `row_of` and `action_of`, which the documents name, may take no narrower
+// type than they took.
 pub fn rows() -> [u64; e1_1::COUNT]
     ensures { result ≡ table }
 {
     e1_1::ROWS
 }
 
-// The row of a tag, or 0 where there is none: the plain search would take the first row with the tag. The rows rise by tag, so the row in
-// the middle tells which half of those that are left, from `low` up to `high`, can still have it.
-pub fn row_of(rows: &[u64], tag: u64) -> u64
+// The row of a tag, if there is one. The plain search would take the first row with the tag; the rows rise by tag, so std's search by
+// halves finds the same one.
+pub fn row_of(rows: &[u64], tag: u64) -> Option<u64>
     requires { rows.now ≡ table }
     ensures { result ≡ row_of tag }
 {
-    let mut low: usize = 0;
-    let mut high = rows.len();
-    while low < high {
-        let middle = (low + high) / 2;
-        let row = rows[middle];
-        let there = row / TAG;
-        if there == tag {
-            return row;
-        }
-        if there < tag {
-            low = middle + 1;
-        } else {
-            high = middle;
-        }
-    }
-    NO_ROW
+    let at = rows.binary_search_by_key(&tag, |row| row / TAG).ok()?;
+    Some(rows[at])
 }
 
 fn is_curve(tag: u64) -> bool
     ensures { result ≡ curve tag }
 {
     let group = tag / GROUP;
-    if group / 256 == 0x50 {
-        return group % 2 == 0;
-    }
-    false
+    group / 256 == 0x50 && group % 2 == 0
 }
 
+#[tactic(auto, unfolding(basis::specs::Choice::among))]
 fn is_overlay(tag: u64) -> bool
     ensures { result ≡ overlay tag }
 {
     let group = tag / GROUP;
-    if group / 256 == 0x60 {
-        if group % 2 == 0 {
-            let element = tag % GROUP;
-            if element == 0x3000 {
-                return true;
-            }
-            return element == 0x4000;
-        }
-        return false;
-    }
-    false
+    let element = tag % GROUP;
+    group / 256 == 0x60 && group % 2 == 0 && (element == 0x3000 || element == 0x4000)
 }
 
+// By `||`, here and in `is_overlay`: `matches!` was tried, and its proof named each goal by a tag's number.
+#[tactic(auto, unfolding(basis::specs::Choice::among))]
 fn is_reserved(tag: u64) -> bool
     ensures { result ≡ among tag reserved }
 {
-    if tag == PATIENT_IDENTITY_REMOVED {
-        return true;
-    }
-    if tag == DEIDENTIFICATION_METHOD {
-        return true;
-    }
-    if tag == DEIDENTIFICATION_CODES {
-        return true;
-    }
-    tag == LONGITUDINAL_TIME
+    tag == PATIENT_IDENTITY_REMOVED
+        || tag == DEIDENTIFICATION_METHOD
+        || tag == DEIDENTIFICATION_CODES
+        || tag == LONGITUDINAL_TIME
 }
 
 // Whether one of the rules that come before the rows speaks of the tag.
+#[tactic(auto, unfolding(crate::specs::Rules::ruled))]
 fn is_ruled(top: bool, tag: u64) -> bool
     ensures { result ≡ ruled top tag }
 {
-    if is_curve(tag) {
-        return true;
-    }
-    if tag / GROUP % 2 == 1 {
-        return true;
-    }
-    if is_overlay(tag) {
-        return true;
-    }
-    if tag % GROUP == 0 {
-        return true;
-    }
-    if top {
-        return is_reserved(tag);
-    }
-    false
+    is_curve(tag)
+        || tag / GROUP % 2 == 1
+        || is_overlay(tag)
+        || tag % GROUP == 0
+        || (top && is_reserved(tag))
 }
 
+#[tactic(auto, unfolding(crate::specs::Action::action_for))]
 fn action_for(letter: u64) -> Action
     ensures { result ≡ action_for letter }
 {
@@ -196,14 +158,12 @@ fn overriding_letter(options: u64, row: u64) -> u64
     let mut letter = NO_LETTER;
     let mut left = options;
     let mut letters = row;
-    let mut bit: u64 = 0;
-    while bit < OPTION_COUNT {
+    for _ in 0..OPTION_COUNT {
         if left % 2 == 1 {
             letter = stronger_of(letter, letters % DIGIT);
         }
-        left = left / 2;
-        letters = letters / DIGIT;
-        bit += 1;
+        left /= 2;
+        letters /= DIGIT;
     }
     letter
 }
@@ -212,19 +172,14 @@ fn overriding_letter(options: u64, row: u64) -> u64
 fn cleans_dates(options: u64, row: u64) -> bool
     ensures { result ≡ cleans_dates options row }
 {
-    if options / 2 % 2 == 1 {
-        return row / DIGIT % DIGIT == C;
-    }
-    false
+    options / 2 % 2 == 1 && row / DIGIT % DIGIT == C
 }
 
 // The action that a row orders.
+#[tactic(auto, unfolding(crate::specs::Action::on_row))]
 fn on_row(options: u64, row: u64) -> Action
     ensures { result ≡ on_row options row }
 {
-    if row == NO_ROW {
-        return Action::Keep;
-    }
     if cleans_dates(options, row) {
         return Action::CleanDates;
     }
@@ -236,6 +191,7 @@ fn on_row(options: u64, row: u64) -> Action
 }
 
 // The action of an element with that tag, at the top level or, where `top` is false, in an item.
+#[tactic(auto, unfolding(crate::specs::Action::action_of))]
 pub fn action_of(rows: &[u64], options: u64, top: bool, tag: u64) -> Action
     requires { rows.now ≡ table }
     ensures { result ≡ action_of options top tag }
@@ -243,6 +199,8 @@ pub fn action_of(rows: &[u64], options: u64, top: bool, tag: u64) -> Action
     if is_ruled(top, tag) {
         return Action::Remove;
     }
-    let row = row_of(rows, tag);
-    on_row(options, row)
+    match row_of(rows, tag) {
+        Some(row) => on_row(options, row),
+        None => Action::Keep,
+    }
 }

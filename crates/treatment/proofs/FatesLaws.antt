@@ -5,25 +5,22 @@
 --     fate-walked, fate-renamed, fate-shifted, fate-kept, fate-dummied, fate-wrong    the same, one fate each
 --     Sequential φ      a sequence can have the fate φ: removed, walked into, emptied or dummied
 --     sequence-fate     a sequence has such a fate
---     fate-reserved        the reserved tags are removed on the top level
+--     fate-reserved     the reserved tags are removed on the top level
 use mathlib.Core.Path.{◌≡◌, refl}
-use mathlib.Core.Logic.{◌≢◌, ◌⊎◌, inl, inr}
-use mathlib.Core.Bool.{Bool, true, false, ◌||◌, false≢true}
-use mathlib.Core.List.{[], ◌∷◌}
+use mathlib.Core.Logic.{◌≢◌, ◌⊎◌}
+use mathlib.Core.Bool.{true}
 use Prim.Native.Nat.{ℕ}
-use lib.Dec.{eqb}
 use native.Mathlib.Omega.{arith}
-use borrow.Author.Tests.{eqb-true, eqb-false}
-use Rattle.basis.specs.Choice.{pick, among}
-use Rattle.basis.proofs.ChoiceLaws.{pick-case}
-use Rattle.vr.specs.Names.{DA, DT, SQ, TM, UI}
+use Rattle.std.proofs.lemmas.Bool.Decides.{nat_tests}
+use Rattle.basis.specs.Choice.{among}
+use Rattle.vr.specs.Names.{DA, DT, SQ, UI}
 use Rattle.table.specs.Rules.{reserved}
 use Rattle.table.specs.Action.{action_of}
 use Rattle.table.specs.declared.Action.{Action}
 use Rattle.table.specs.declared.Action.TheVariants.{Remove, Keep, Empty, Dummy, Rename, Clean, CleanDates}
 use Rattle.table.proofs.ActionLaws.{reserved-removed}
 use Rattle.treatment.specs.Settings.{Settings}
-use Rattle.treatment.specs.Fates.{is_top, as_d, by_action, fate_of, fate}
+use Rattle.treatment.specs.Fates.{is_top, by_action, fate_of, fate}
 use Rattle.treatment.specs.declared.Level.{Level}
 use Rattle.treatment.specs.declared.Level.TheVariants.{Top}
 use Rattle.treatment.specs.declared.Fate.{Fate}
@@ -41,31 +38,15 @@ Suits Renamed vr = vr ≡ UI
 Suits Shifted vr = (vr ≡ DA) ⊎ (vr ≡ DT)
 Suits Wrong vr = (vr ≢ UI) × (vr ≢ SQ)
 
-among-two : (n a b : ℕ) → among n (a ∷ b ∷ []) ≡ true → (n ≡ a) ⊎ (n ≡ b)
-unfolding among
-among-two n a b e = step (eqb n a) (eqb n b) refl refl e
-  where
-    step : (x y : Bool) → eqb n a ≡ x → eqb n b ≡ y → x || (y || false) ≡ true → (n ≡ a) ⊎ (n ≡ b)
-    step true y p q e = inl (eqb-true n a p)
-    step false true p q e = inr (eqb-true n b q)
-    step false false p q e = absurd (false≢true e)
-
-as_d-suits : (vr : ℕ) → Suits (as_d vr) vr
-as_d-suits vr = pick-case (λ φ. Suits φ vr) (eqb vr UI) Renamed Dummied (λ e. eqb-true vr UI e) (λ e. eqb-false vr UI e)
-
 by_action-suits : (a : Action) (vr : ℕ) → Suits (by_action a vr) vr
+unfolding among
 by_action-suits Remove vr = tt
-by_action-suits Keep vr = pick-case (λ φ. Suits φ vr) (eqb vr SQ) Walked Kept (λ e. eqb-true vr SQ e) (λ e. eqb-false vr SQ e)
+by_action-suits Keep vr = grind (arith, nat_tests)
 by_action-suits Empty vr = tt
-by_action-suits Dummy vr = as_d-suits vr
-by_action-suits Rename vr =
-    pick-case (λ φ. Suits φ vr) (eqb vr UI) Renamed (pick (eqb vr SQ) Walked Wrong) (λ e. eqb-true vr UI e)
-    (λ u. pick-case (λ φ. Suits φ vr) (eqb vr SQ) Walked Wrong (λ e. eqb-true vr SQ e) (λ e. (eqb-false vr UI u, eqb-false vr SQ e)))
-by_action-suits Clean vr = pick-case (λ φ. Suits φ vr) (eqb vr SQ) Walked (as_d vr) (λ e. eqb-true vr SQ e) (λ e. as_d-suits vr)
-by_action-suits CleanDates vr =
-    pick-case (λ φ. Suits φ vr) (eqb vr SQ) Walked (pick (among vr (DA ∷ DT ∷ [])) Shifted (pick (eqb vr TM) Kept (as_d vr))) (λ e. eqb-true vr SQ e)
-    (λ q. pick-case (λ φ. Suits φ vr) (among vr (DA ∷ DT ∷ [])) Shifted (pick (eqb vr TM) Kept (as_d vr)) (λ e. among-two vr DA DT e)
-    (λ _. pick-case (λ φ. Suits φ vr) (eqb vr TM) Kept (as_d vr) (λ _. eqb-false vr SQ q) (λ _. as_d-suits vr)))
+by_action-suits Dummy vr = grind (arith, nat_tests)
+by_action-suits Rename vr = grind (arith, nat_tests)
+by_action-suits Clean vr = grind (arith, nat_tests)
+by_action-suits CleanDates vr = grind (arith, nat_tests)
 
 -- ---- fate
 
@@ -112,10 +93,6 @@ Sequential Renamed = ⊥
 Sequential Shifted = ⊥
 Sequential Wrong = ⊥
 
-no-date : (SQ ≡ DA) ⊎ (SQ ≡ DT) → ⊥
-no-date (inl e) = absurd (omega (arith, e))
-no-date (inr e) = absurd (omega (arith, e))
-
 suits-sequential : (φ : Fate) → Suits φ SQ → Sequential φ
 suits-sequential Removed u = tt
 suits-sequential Kept u = u refl
@@ -123,7 +100,7 @@ suits-sequential Walked u = tt
 suits-sequential Emptied u = tt
 suits-sequential Dummied u = tt
 suits-sequential Renamed u = absurd (omega (arith, u))
-suits-sequential Shifted u = no-date u
+suits-sequential Shifted u = grind arith
 suits-sequential Wrong u = u.1 refl
 
 pub sequence-fate : (s : Settings) (level : Level) (tag : ℕ) → Sequential (fate s level tag SQ)

@@ -14,8 +14,35 @@ pub struct SettingNumbers {
     pub days: i32,
 }
 
-// Where an element stands.
+// The settings that are texts, as they are lent: the root of new UIDs, and the study's replacement list and the site's. They too go down
+// unchanged.
 #[derive(Clone, Copy)]
+pub struct SettingTexts<'a> {
+    pub root: &'a [u8],
+    pub study: &'a [u8],
+    pub site: &'a [u8],
+}
+
+// What decides on an element, wherever it stands: the table, and the settings that are numbers.
+#[derive(Clone, Copy)]
+pub struct Rules<'a> {
+    pub rows: &'a [u64],
+    pub numbers: SettingNumbers,
+    // the rows are the table
+    ghost whole: { rows.now ≡ table },
+}
+
+impl<'a> Rules<'a> {
+    // The fate of an element.
+    pub fn fate_of(self, level: Level, tag: u64, vr: u64) -> Fate
+        ensures { result ≡ fate_of self.entry.numbers.options level tag vr }
+    {
+        fate_of(self.rows, self.numbers.options, level, tag, vr)
+    }
+}
+
+// Where an element stands.
+#[derive(Clone, Copy, Debug, PartialEq, Eq)]
 pub enum Level {
     // on the top level of the data set
     Top,
@@ -26,7 +53,7 @@ pub enum Level {
 }
 
 // What happens to an element.
-#[derive(Clone, Copy)]
+#[derive(Clone, Copy, Debug, PartialEq, Eq)]
 pub enum Fate {
     // it is left out
     Removed,
@@ -49,27 +76,14 @@ pub enum Fate {
 pub fn is_top(level: Level) -> bool
     ensures { result ≡ is_top level }
 {
-    match level {
-        Level::Top => true,
-        Level::Inner => false,
-        Level::Under => false,
-    }
+    level == Level::Top
 }
 
 // Whether a sequence of this fate is walked into.
 pub fn walks_into(fate: Fate) -> bool
     ensures { result ≡ walks_into fate }
 {
-    match fate {
-        Fate::Removed => false,
-        Fate::Kept => false,
-        Fate::Walked => true,
-        Fate::Emptied => false,
-        Fate::Dummied => false,
-        Fate::Renamed => false,
-        Fate::Shifted => false,
-        Fate::Wrong => false,
-    }
+    fate == Fate::Walked
 }
 
 // The level of what stands in the items of a sequence of this fate.
@@ -77,8 +91,7 @@ pub fn below(fate: Fate, level: Level) -> Level
     ensures { result ≡ below_of fate level }
 {
     match level {
-        Level::Top => Level::Inner,
-        Level::Inner => Level::Inner,
+        Level::Top | Level::Inner => Level::Inner,
         Level::Under => Level::Under,
     }
 }
@@ -87,62 +100,54 @@ pub fn below(fate: Fate, level: Level) -> Level
 fn as_dummy(vr: u64) -> Fate
     ensures { result ≡ as_d vr }
 {
-    if vr == vr::UI {
-        return Fate::Renamed;
+    match vr {
+        vr::UI => Fate::Renamed,
+        _ => Fate::Dummied,
     }
-    Fate::Dummied
 }
 
 // K: a sequence is walked into.
 fn as_kept(vr: u64) -> Fate
     ensures { result ≡ by_action Action.Keep vr }
 {
-    if vr == vr::SQ {
-        return Fate::Walked;
+    match vr {
+        vr::SQ => Fate::Walked,
+        _ => Fate::Kept,
     }
-    Fate::Kept
 }
 
 // U: what is neither a UI nor a sequence is refused.
 fn as_renamed(vr: u64) -> Fate
     ensures { result ≡ by_action Action.Rename vr }
 {
-    if vr == vr::UI {
-        return Fate::Renamed;
+    match vr {
+        vr::UI => Fate::Renamed,
+        vr::SQ => Fate::Walked,
+        _ => Fate::Wrong,
     }
-    if vr == vr::SQ {
-        return Fate::Walked;
-    }
-    Fate::Wrong
 }
 
 // C: a sequence is walked into, all else is treated as D.
 fn as_clean(vr: u64) -> Fate
     ensures { result ≡ by_action Action.Clean vr }
 {
-    if vr == vr::SQ {
-        return Fate::Walked;
+    match vr {
+        vr::SQ => Fate::Walked,
+        _ => as_dummy(vr),
     }
-    as_dummy(vr)
 }
 
 // C in Modified Dates' column: the same, but dates are shifted and a time stays as it is.
+#[tactic(auto, unfolding(basis::specs::Choice::among))]
 fn as_clean_dates(vr: u64) -> Fate
     ensures { result ≡ by_action Action.CleanDates vr }
 {
-    if vr == vr::SQ {
-        return Fate::Walked;
+    match vr {
+        vr::SQ => Fate::Walked,
+        vr::DA | vr::DT => Fate::Shifted,
+        vr::TM => Fate::Kept,
+        _ => as_dummy(vr),
     }
-    if vr == vr::DA {
-        return Fate::Shifted;
-    }
-    if vr == vr::DT {
-        return Fate::Shifted;
-    }
-    if vr == vr::TM {
-        return Fate::Kept;
-    }
-    as_dummy(vr)
 }
 
 // The fate that an action gives an element of this VR.
@@ -161,11 +166,10 @@ fn by_action(action: Action, vr: u64) -> Fate
 }
 
 // The fate of an element under the option number. The caller lends the table that `table::rows` makes.
+#[tactic(auto, unfolding(crate::specs::Fates::fate_of))]
 pub fn fate_of(rows: &[u64], options: u64, level: Level, tag: u64, vr: u64) -> Fate
     requires { rows.now ≡ table }
     ensures { result ≡ fate_of options level tag vr }
 {
-    let top = is_top(level);
-    let action = table::action_of(rows, options, top, tag);
-    by_action(action, vr)
+    by_action(table::action_of(rows, options, is_top(level), tag), vr)
 }

@@ -1,7 +1,7 @@
 -- Small cases of the definitions, worked out: one claim. No contract cites this file. Assumes nothing.
 use mathlib.Core.Path.{◌≡◌, refl}
 use mathlib.Core.Bool.{true, false, not}
-use mathlib.Core.Option.{some}
+use Rattle.std.specs.Prelude.{Some}
 use mathlib.Core.List.{List, [], ◌∷◌, ◌++◌}
 use Prim.Native.Nat.{ℕ, ◌+◌}
 use lib.ListN.{replicate}
@@ -40,9 +40,9 @@ pub cases :
     × (every (λ u. not (is_uid u)) others ≡ true)
     × (is_root (ones longest_root) ≡ true)
     × (is_root (ones (longest_root + 1)) ≡ false)
-    × (uids_of [] ≡ some [])
-    × (uids_of (ascii "1.23") ≡ some (ascii "1.23" ∷ []))
-    × (uids_of three ≡ some (ascii "1.2.3" ∷ ascii "1.2.4" ∷ ascii "1.2.3" ∷ []))
+    × (uids_of [] ≡ Some [])
+    × (uids_of (ascii "1.23") ≡ Some (ascii "1.23" ∷ []))
+    × (uids_of three ≡ Some (ascii "1.2.3" ∷ ascii "1.2.4" ∷ ascii "1.2.3" ∷ []))
     × (uids_fault (value_of (replicate most_uids (ones 1))) ≡ false)
     × (every uids_fault broken ≡ true)
     × (decimal 0 ≡ 48 ∷ [])

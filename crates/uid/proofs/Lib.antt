@@ -1,6 +1,6 @@
 pub mod UidLaws
 pub mod ScanLaws
-pub mod ComponentTurns
+pub mod LeadLaws
 pub mod UidTurns
 pub mod PadLaws
 pub mod ValueLaws

@@ -11,7 +11,7 @@
 use mathlib.Core.Path.{◌≡◌, refl, sym, ap, ap₂, ◌∙◌}
 use mathlib.Core.Bool.{Bool, true, false, and-eq-true_iff}
 use mathlib.Core.Logic.{◌≢◌}
-use mathlib.Core.Option.{some}
+use Rattle.std.specs.Prelude.{Some}
 use mathlib.Core.List.{List, [], ◌∷◌, ◌++◌, map, append_cancel_left, head-eq_of_cons-eq, tail-eq_of_cons-eq, nil≢cons, cons≢nil, Memᴰ}
 use Prim.Native.Nat.{ℕ, zero, suc, ◌+◌, ◌-◌, ◌*◌, ◌/◌, ◌%◌, ◌^◌, ◌≤◌, ◌<◌}
 use native.Mathlib.Decide.{dec_lt}
@@ -211,5 +211,5 @@ module _ (root : List ℕ) (good : is_root root ≡ true) where
       (new_uid-is_uid root n good (h n (Memᴰ.head refl)), news-uids ns (λ m k. h m (Memᴰ.tail k)))
 
   pub uids_of-uids_text : (ns : List ℕ) → ((n : ℕ) → Memᴰ n ns → n < 10 ^ digits_left) → length ns ≤ most_uids
-      → uids_of (uids_text root ns) ≡ some (map (new_uid root) ns)
+      → uids_of (uids_text root ns) ≡ Some (map (new_uid root) ns)
   uids_of-uids_text ns h k = uids_of-joined (map (new_uid root) ns) (omega (arith, length-map ns (new_uid root))) (news-uids ns h)

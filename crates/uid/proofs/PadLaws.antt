@@ -1,22 +1,22 @@
 -- Laws of `specs/Value.antt`, on padding. No contract cites this file. Assumes nothing.
 --     trimmed-snoc, trimmed-free                  the last byte decides; no zero byte, nothing is taken off
---     trimmed-part                                what the place shows that `trimmed_end` hands back
---     trimmed-none, trimmed-zero, trimmed-same    the ways out of `trimmed_end`
+--     length-trimmed                              it is no longer than before
+--     trimmed-zero, trimmed-same                  what `trimmed` hands back
 --     zero_pad-even, zero_pad-odd, length-padded      a padded text is even
 --     trimmed-zero_pad, zero_pad-trimmed              the zero byte of an even value is the one that the rule asks for
 use mathlib.Core.Path.{◌≡◌, refl, sym, ap, ◌∙◌}
-use mathlib.Core.Bool.{Bool, true, false}
+use mathlib.Core.Bool.{Bool, true, false, true≢false}
 use mathlib.Core.Logic.{◌⊎◌, inl, inr}
+use Rattle.std.specs.List.{ends_with}
+use Rattle.std.proofs.lemmas.Bool.Decides.{Decides-eqb}
+use Rattle.std.proofs.lemmas.Slice.Eq.{ends_is}
 use mathlib.Core.List.{List, [], ◌∷◌, ◌++◌, append-nil}
-use Prim.Native.Nat.{ℕ, ◌+◌, ◌-◌, ◌%◌, ◌≤◌, ◌<◌}
+use Prim.Native.Nat.{ℕ, ◌+◌, ◌-◌, ◌%◌, ◌≤◌}
 use native.Mathlib.Omega.{arith}
 use borrow.Author.Tests.{eqb-true, eqb-false, eq-eqb, ne_eqb}
 use lib.Dec.{eqb}
-use lib.ListN.{length, take, get_or, length-append}
-use lib.Seq.{take-append_seam, take-length}
+use lib.ListN.{length, length-append, take}
 use Rattle.basis.specs.Choice.{pick}
-use Rattle.basis.specs.Bytes.{part}
-use Rattle.basis.proofs.BytesLaws.{length-part, part-none, part-more, part-front}
 use Rattle.basis.proofs.PiecesLaws.{Free}
 use Rattle.uid.specs.Value.{trimmed, zero_pad}
 
@@ -58,44 +58,26 @@ trimmed-off (x ∷ y ∷ v) = step (trimmed-off (y ∷ v))
     step (inl e) = inl (ap (λ u. x ∷ u) e)
     step (inr e) = inr (ap (λ u. x ∷ u) e)
 
-trimmed-front : (v : List ℕ) → (length (trimmed v) ≤ length v) × (take (length (trimmed v)) v ≡ trimmed v)
-trimmed-front v = step (trimmed-off v)
+pub length-trimmed : (v : List ℕ) → length (trimmed v) ≤ length v
+length-trimmed v = step (trimmed-off v)
   where
-    step : (trimmed v ≡ v) ⊎ (v ≡ trimmed v ++ 0 ∷ []) → (length (trimmed v) ≤ length v) × (take (length (trimmed v)) v ≡ trimmed v)
-    step (inl e) = (omega (arith, ap length e), ap (λ u. take (length u) v) e ∙ take-length v ∙ sym e)
-    step (inr e) = (omega (arith, ap length e, length-append (trimmed v) (0 ∷ [])), ap (take (length (trimmed v))) e ∙ take-append_seam (trimmed v) (0 ∷ []))
+    step : (trimmed v ≡ v) ⊎ (v ≡ trimmed v ++ 0 ∷ []) → length (trimmed v) ≤ length v
+    step (inl e) = omega (arith, ap length e)
+    step (inr e) = omega (arith, ap length e, length-append (trimmed v) (0 ∷ []))
 
-module _ (s : List ℕ) (from to : ℕ) (le : from ≤ to) (in_s : to ≤ length s) where
-  -- the place that `trimmed_end` hands back
-  pub trimmed-part : (r : ℕ) → r ≡ from + length (trimmed (part s from to)) → (from ≤ r) × (r ≤ to) × (part s from r ≡ trimmed (part s from to))
-  trimmed-part r is =
-      let f = trimmed-front (part s from to) in
-      let m : length (part s from to) ≡ to - from = length-part s from to in_s in
-      (omega arith, omega (arith, f.0), ap (part s from) is ∙ sym (part-front s from to (length (trimmed (part s from to))) (omega (arith, f.0))) ∙ f.1)
+-- where a zero byte ends the value, and where none does
+module _ (v : List ℕ) {b : Bool} (is : b ≡ ends_with eqb v (0 ∷ [])) where
+  pub trimmed-zero : b ≡ true → take (length v - 1) v ≡ trimmed v
+  trimmed-zero e =
+      let s : v ≡ take (length v - 1) v ++ 0 ∷ [] = (ends_is Decides-eqb v (0 ∷ []) b is).0 e in
+      sym (ap trimmed s ∙ trimmed-snoc (take (length v - 1) v) 0)
 
-  pub trimmed-none : from ≡ to → to ≡ from + length (trimmed (part s from to))
-  unfolding trimmed
-  trimmed-none e =
-      let n : length (trimmed (part s from to)) ≡ 0 = ap (λ z. length (trimmed z)) (ap (part s from) (sym e) ∙ part-none s from) in
-      omega arith
-
-  module _ (lt : from < to) where
-    snoc : part s from to ≡ part s from (to - 1) ++ get_or s (to - 1) 0 ∷ []
-    snoc = let e : to ≡ to - 1 + 1 = omega arith in ap (part s from) e ∙ part-more s from (to - 1) (omega arith) (omega arith)
-
-    pub trimmed-zero : get_or s (to - 1) 0 ≡ 0 → to - 1 ≡ from + length (trimmed (part s from to))
-    trimmed-zero z =
-        let t : trimmed (part s from to) ≡ part s from (to - 1) =
-        ap trimmed snoc ∙ trimmed-snoc (part s from (to - 1)) (get_or s (to - 1) 0)
-        ∙ ap (λ b. pick b (part s from (to - 1)) (part s from (to - 1) ++ get_or s (to - 1) 0 ∷ [])) (eq-eqb (get_or s (to - 1) 0) 0 z) in
-        omega (arith, ap length t, length-part s from (to - 1) (omega arith))
-
-    pub trimmed-same : (get_or s (to - 1) 0 ≡ 0 → ⊥) → to ≡ from + length (trimmed (part s from to))
-    trimmed-same n =
-        let t : trimmed (part s from to) ≡ part s from to =
-        ap trimmed snoc ∙ trimmed-snoc (part s from (to - 1)) (get_or s (to - 1) 0)
-        ∙ ap (λ b. pick b (part s from (to - 1)) (part s from (to - 1) ++ get_or s (to - 1) 0 ∷ [])) (ne_eqb (get_or s (to - 1) 0) 0 n) ∙ sym snoc in
-        omega (arith, ap length t, length-part s from to in_s)
+  pub trimmed-same : b ≡ false → v ≡ trimmed v
+  trimmed-same e = step (trimmed-off v)
+    where
+      step : (trimmed v ≡ v) ⊎ (v ≡ trimmed v ++ 0 ∷ []) → v ≡ trimmed v
+      step (inl f) = sym f
+      step (inr f) = absurd (true≢false (sym ((ends_is Decides-eqb v (0 ∷ []) b is).1 (trimmed v) f) ∙ e))
 
 -- ---- zero_pad
 

@@ -10,7 +10,8 @@
 --     value_of-inj                      two lists of UIDs have two texts
 use mathlib.Core.Path.{◌≡◌, refl, sym, ap, ◌∙◌}
 use mathlib.Core.Bool.{Bool, true, false, ◌&&◌, true≢false, and-eq-true_iff}
-use mathlib.Core.Option.{Option, none, some, none-ne-some, some-injective}
+use Rattle.std.specs.Prelude.{Option, None, Some}
+use Rattle.std.proofs.lemmas.Option.{none-some, same_Some}
 use mathlib.Core.List.{List, [], ◌∷◌, ◌++◌}
 use Prim.Native.Nat.{ℕ, ◌+◌, ◌*◌, ◌%◌, ◌≤◌, ◌<◌}
 use native.Mathlib.Omega.{arith}
@@ -64,12 +65,12 @@ unfolding uids_of
 uids_of-some [] h e = absurd (omega arith)
 uids_of-some (x ∷ v) h e = rw (eq-eqb (length (x ∷ v) % 2) 0 e) refl
 
-pub uids_of-odd : (v : List ℕ) → (length v % 2 ≡ 0 → ⊥) → uids_of v ≡ none
+pub uids_of-odd : (v : List ℕ) → (length v % 2 ≡ 0 → ⊥) → uids_of v ≡ None
 unfolding uids_of
 uids_of-odd [] n = absurd (n refl)
 uids_of-odd (x ∷ v) n = rw (ne_eqb (length (x ∷ v) % 2) 0 n) refl
 
-if_uids-yes : (us : List (List ℕ)) → length us ≤ most_uids → every is_uid us ≡ true → if_uids us ≡ some us
+if_uids-yes : (us : List (List ℕ)) → length us ≤ most_uids → every is_uid us ≡ true → if_uids us ≡ Some us
 unfolding if_uids
 if_uids-yes us h e = rw (le-leb (length us) most_uids h, e) refl
 
@@ -77,7 +78,7 @@ value_of-some : (u : List ℕ) (us : List (List ℕ)) → 1 ≤ length u → 0 <
 unfolding value_of joined
 value_of-some u us h = simp length-append (omega arith)
 
-pub uids_of-joined : (us : List (List ℕ)) → length us ≤ most_uids → every is_uid us ≡ true → uids_of (value_of us) ≡ some us
+pub uids_of-joined : (us : List (List ℕ)) → length us ≤ most_uids → every is_uid us ≡ true → uids_of (value_of us) ≡ Some us
 unfolding uids_of value_of joined zero_pad every
 uids_of-joined [] h e = refl
 uids_of-joined (u ∷ us) h e =
@@ -94,26 +95,26 @@ pub record UidsAre (v : List ℕ) (us : List (List ℕ)) : Type 0 where
   pub uids : every is_uid us ≡ true
   pub cut : 0 < length v → us ≡ pieces (trimmed v)
 
-if_uids-is : (ps us : List (List ℕ)) → if_uids ps ≡ some us → (ps ≡ us) × (length us ≤ most_uids) × (every is_uid us ≡ true)
+if_uids-is : (ps us : List (List ℕ)) → if_uids ps ≡ Some us → (ps ≡ us) × (length us ≤ most_uids) × (every is_uid us ≡ true)
 unfolding if_uids
 if_uids-is ps us e = step (leb (length ps) most_uids) refl (every is_uid ps) refl e
   where
-    step : (a : Bool) → leb (length ps) most_uids ≡ a → (b : Bool) → every is_uid ps ≡ b → ◌≡◌ {A = Option (List (List ℕ))} (pick (a && b) (some ps) none) (some us)
+    step : (a : Bool) → leb (length ps) most_uids ≡ a → (b : Bool) → every is_uid ps ≡ b → ◌≡◌ {A = Option (List (List ℕ))} (pick (a && b) (Some ps) None) (Some us)
         → (ps ≡ us) × (length us ≤ most_uids) × (every is_uid us ≡ true)
     step true f true g k =
-        let i : ps ≡ us = some-injective ps us k in
+        let i : ps ≡ us = same_Some ps us k in
         (i, omega (arith, leb-true (length ps) most_uids f, ap length i), ap (every is_uid) (sym i) ∙ g)
-    step true f false g k = absurd (none-ne-some us k)
-    step false f b g k = absurd (none-ne-some us k)
+    step true f false g k = absurd (none-some us k)
+    step false f b g k = absurd (none-some us k)
 
-pub uids_of-are : (v : List ℕ) (us : List (List ℕ)) → uids_of v ≡ some us → UidsAre v us
+pub uids_of-are : (v : List ℕ) (us : List (List ℕ)) → uids_of v ≡ Some us → UidsAre v us
 unfolding uids_of value_of joined zero_pad every
 uids_of-are [] us e =
-    let i : [] ≡ us = some-injective [] us e in
+    let i : [] ≡ us = same_Some [] us e in
     rw (← i) record { value = refl; few = omega arith; uids = refl; cut = λ h. absurd (omega arith) }
 uids_of-are (x ∷ v) us e = step (eqb (length (x ∷ v) % 2) 0) refl e
   where
-    step : (b : Bool) → eqb (length (x ∷ v) % 2) 0 ≡ b → ◌≡◌ {A = Option (List (List ℕ))} (pick b (if_uids (pieces (trimmed (x ∷ v)))) none) (some us) → UidsAre (x ∷ v) us
+    step : (b : Bool) → eqb (length (x ∷ v) % 2) 0 ≡ b → ◌≡◌ {A = Option (List (List ℕ))} (pick b (if_uids (pieces (trimmed (x ∷ v)))) None) (Some us) → UidsAre (x ∷ v) us
     step true f k =
         let i = if_uids-is (pieces (trimmed (x ∷ v))) us k in
         let j : trimmed (x ∷ v) ≡ joined us = sym (joined-pieces (trimmed (x ∷ v))) ∙ ap joined i.0 in
@@ -123,16 +124,16 @@ uids_of-are (x ∷ v) us e = step (eqb (length (x ∷ v) % 2) 0) refl e
           uids = i.2;
           cut = λ h. sym i.0;
         }
-    step false f k = absurd (none-ne-some us k)
+    step false f k = absurd (none-some us k)
 
-pub uids_of-found : (v : List ℕ) → uids_fault v ≡ false → (us : List (List ℕ)) × (uids_of v ≡ some us)
+pub uids_of-found : (v : List ℕ) → uids_fault v ≡ false → (us : List (List ℕ)) × (uids_of v ≡ Some us)
 uids_of-found v e = step (uids_of v) refl e
   where
-    step : (o : Option (List (List ℕ))) → uids_of v ≡ o → is_none o ≡ false → (us : List (List ℕ)) × (uids_of v ≡ some us)
-    step none f g = absurd (true≢false g)
-    step (some us) f g = (us, f)
+    step : (o : Option (List (List ℕ))) → uids_of v ≡ o → is_none o ≡ false → (us : List (List ℕ)) × (uids_of v ≡ Some us)
+    step None f g = absurd (true≢false g)
+    step (Some us) f g = (us, f)
 
-pub uids_of-inj : (v w : List ℕ) (us : List (List ℕ)) → uids_of v ≡ some us → uids_of w ≡ some us → v ≡ w
+pub uids_of-inj : (v w : List ℕ) (us : List (List ℕ)) → uids_of v ≡ Some us → uids_of w ≡ Some us → v ≡ w
 uids_of-inj v w us e f = (uids_of-are v us e).value ∙ sym (uids_of-are w us f).value
 
 -- ---- value_of

@@ -1,5 +1,5 @@
 -- What the scans of a value find at a place; each is short for words of the other files, and none adds a rule. Inner contracts cite
--- this file, no promise does. Laws: `proofs/ScanLaws.antt`, `proofs/ComponentTurns.antt`. Assumes nothing.
+-- this file, no promise does. Laws: `proofs/ScanLaws.antt`, `proofs/LeadLaws.antt`. Assumes nothing.
 --     uid_span v            the length of the first piece of v where it is made of components; 0 where it is not
 --     lead v                how many bytes at the front of v are a component; 0 where none are
 --     digits v              how many digits v begins with

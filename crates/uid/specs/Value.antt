@@ -8,8 +8,7 @@
 --     zero_pad t       one zero byte where the length of t is odd, else nothing
 --     most_uids        the most UIDs of a value: 1,000
 -- A value without any byte holds no UID. Another is even, so that its zero byte, if there is one, is the one that the rule asks for (U1).
-use Rattle.std.specs.Prelude.{Bool, ◌&&◌, List, [], ◌∷◌, ◌++◌, ℕ, ◌%◌, eqb, leb, length}
-use Rattle.std.proofs.Math.Option.{Option, none, some}
+use Rattle.std.specs.Prelude.{Bool, ◌&&◌, List, [], ◌∷◌, ◌++◌, ℕ, ◌%◌, eqb, leb, length, Option, None, Some}
 use Rattle.basis.specs.Choice.{pick, is_none, every}
 use Rattle.basis.specs.Pieces.{pieces, joined}
 use Rattle.uid.specs.Uid.{is_uid}
@@ -19,7 +18,7 @@ most_uids = 1000
 
 -- Document 01, UIDs, 2nd sentence: 0 to 1,000 UIDs, equal ones counted each time (U2)
 unfoldable pub if_uids : List (List ℕ) → Option (List (List ℕ))
-if_uids us = pick (leb (length us) most_uids && every is_uid us) (some us) none
+if_uids us = pick (leb (length us) most_uids && every is_uid us) (Some us) None
 
 unfoldable pub trimmed : List ℕ → List ℕ
 trimmed [] = []
@@ -28,8 +27,8 @@ trimmed (x ∷ y ∷ v) = x ∷ trimmed (y ∷ v)
 
 -- Document 01, UIDs, 2nd sentence: joined by backslashes, with one zero byte where the length would be odd and no other padding
 unfoldable pub uids_of : List ℕ → Option (List (List ℕ))
-uids_of [] = some []
-uids_of (x ∷ v) = pick (eqb (length (x ∷ v) % 2) 0) (if_uids (pieces (trimmed (x ∷ v)))) none
+uids_of [] = Some []
+uids_of (x ∷ v) = pick (eqb (length (x ∷ v) % 2) 0) (if_uids (pieces (trimmed (x ∷ v)))) None
 
 -- Refusal 11: the value of an element to be renamed breaks the rule
 abbrev pub uids_fault : List ℕ → Bool

@@ -1,8 +1,9 @@
 #![tactic(auto)]
 
-ghost use Rattle.std.specs.Prelude.{◌≡◌, ℕ, ◌+◌, ◌-◌, ◌≤◌, ◌<◌, ◌^◌, List, length, take, drop};
-ghost use Rattle.basis.specs.Bytes.{part};
-ghost use Rattle.buffer.specs.Buffer.{laid};
+ghost use Rattle.std.specs.Prelude.{◌≡◌, ℕ, ◌+◌, ◌-◌, ◌≤◌, ◌<◌, ◌^◌, List, length, not, position};
+ghost use Rattle.basis.specs.Parts.{IsPart};
+ghost use Rattle.basis.specs.Text.{is_digit};
+ghost use Rattle.buffer.specs.Buffer.{laid, Puts};
 ghost use Rattle.uid.specs.Uid.{uid_upto, is_uid, is_root};
 ghost use Rattle.uid.specs.Value.{trimmed, uids_fault};
 ghost use Rattle.uid.specs.NewUid.{decimal, new_uid};
@@ -19,127 +20,102 @@ const DOT: u8 = b'.';
 
 const DIGIT_0: u8 = b'0';
 
-const DIGIT_9: u8 = b'9';
-
-// Where the component that begins at `a` ends: `a` where none begins there. A zero is a whole one, so whatever follows it but a
-// dot is found to be wrong by the caller.
-fn component_end(s: &[u8], a: usize, stop: usize) -> usize
-    requires { (a ≤ stop) × (stop ≤ length s.now) }
-    ensures { result ≡ a + lead (part s.now a stop) }
+// The place of the first byte that is no digit.
+fn find_non_digit(v: &[u8]) -> Option<usize>
+    ensures { result ≡ position (λ x. not (is_digit x)) v.now }
 {
-    if a == stop {
-        return a;
-    }
-    if s[a] == DIGIT_0 {
-        return a + 1;
-    }
-    let mut e = a;
-    while e < stop {
-        if s[e] < DIGIT_0 {
-            return e;
-        }
-        if DIGIT_9 < s[e] {
-            return e;
-        }
-        e += 1;
-    }
-    e
+    v.iter().position(|x| !x.is_ascii_digit())
 }
 
-// Where the piece that begins at `a` ends, if it is made of components with dots between them; else `a`.
-fn uid_end(s: &[u8], a: usize, stop: usize) -> usize
-    requires { (a ≤ stop) × (stop ≤ length s.now) }
-    ensures { result ≡ a + uid_span (part s.now a stop) }
+// How many bytes at the front of `v` are a component; 0 where none are. A zero is a whole one, so whatever follows it but a dot is
+// found to be wrong by the caller.
+fn component_len(v: &[u8]) -> usize
+    ensures { result ≡ lead v.now }
 {
-    let mut i = a;
+    if v.starts_with(b"0") {
+        return 1;
+    }
+    find_non_digit(v).unwrap_or(v.len())
+}
+
+// How long the first piece of `v` is, if it is made of components with dots between them; else 0. One loop over the bytes: pieces that
+// are split off first would be looked at again for their components.
+fn uid_len(v: &[u8]) -> usize
+    ensures { result ≡ uid_span v.now }
+{
+    let mut i = 0;
     loop {
-        let e = component_end(s, i, stop);
-        if e == i {
-            return a;
+        let n = component_len(&v[i..]);
+        if n == 0 {
+            return 0;
         }
-        if e == stop {
-            return e;
+        i += n;
+        if i == v.len() || v[i] == basis::BACKSLASH {
+            return i;
         }
-        if s[e] == basis::BACKSLASH {
-            return e;
+        if v[i] != DOT {
+            return 0;
         }
-        if s[e] != DOT {
-            return a;
-        }
-        i = e + 1;
+        i += 1;
     }
 }
 
 // Are these bytes a UID of at most `longest` characters? Too many are not looked at.
-fn is_uid_upto(s: &[u8], from: usize, to: usize, longest: usize) -> bool
-    requires { (from ≤ to) × (to ≤ length s.now) }
-    ensures { result ≡ uid_upto longest (part s.now from to) }
+fn is_uid_upto(longest: usize, v: &[u8]) -> bool
+    ensures { result ≡ uid_upto longest v.now }
 {
-    if longest < to - from {
+    if v.is_empty() || longest < v.len() {
         return false;
     }
-    if from == to {
-        return false;
-    }
-    uid_end(s, from, to) == to
+    uid_len(v) == v.len()
 }
 
-// Are the bytes from `from` up to `to` a UID?
-pub fn is_uid(s: &[u8], from: usize, to: usize) -> bool
-    requires { (from ≤ to) × (to ≤ length s.now) }
-    ensures { result ≡ is_uid (part s.now from to) }
+// Is this a UID?
+pub fn is_uid(uid: &[u8]) -> bool
+    ensures { result ≡ is_uid uid.now }
 {
-    is_uid_upto(s, from, to, LONGEST_UID)
+    is_uid_upto(LONGEST_UID, uid)
 }
 
 // Is this a root? (Refusal 2 where it is not.)
 pub fn is_root(root: &[u8]) -> bool
     ensures { result ≡ is_root root.now }
 {
-    is_uid_upto(root, 0, root.len(), LONGEST_ROOT)
+    is_uid_upto(LONGEST_ROOT, root)
 }
 
-// Where a value ends without the zero byte at its end.
-pub fn trimmed_end(s: &[u8], from: usize, to: usize) -> usize
-    requires { (from ≤ to) × (to ≤ length s.now) }
-    ensures { result ≡ from + length (trimmed (part s.now from to)) }
+// A value without the zero byte at its end: that part of it, in its place.
+pub fn trimmed(value: &[u8]) -> &[u8]
+    ensures bytes { result.now ≡ trimmed value.now }
+    ensures place { IsPart result value.entry 0 (length result.now) }
 {
-    if from == to {
-        return to;
+    if value.ends_with(&[0]) {
+        &value[..value.len() - 1]
+    } else {
+        value
     }
-    if s[to - 1] == 0 {
-        return to - 1;
-    }
-    to
 }
 
-// Does the value from `from` up to `to` break the rule for UIDs? (Refusal 11 where it does.) Each byte is looked at once.
-pub fn uids_fault(s: &[u8], from: usize, to: usize) -> bool
-    requires { (from ≤ to) × (to ≤ length s.now) }
-    ensures { result ≡ uids_fault (part s.now from to) }
+// Does a value break the rule for UIDs? (Refusal 11 where it does.) Each byte is looked at once.
+pub fn uids_fault(value: &[u8]) -> bool
+    ensures { result ≡ uids_fault value.now }
 {
-    if from == to {
+    if value.is_empty() {
         return false;
     }
-    if (to - from) % 2 != 0 {
+    if value.len() % 2 != 0 {
         return true;
     }
-    let stop = trimmed_end(s, from, to);
-    let mut a = from;
-    let mut left = MOST_UIDS;
-    while 0 < left {
-        let e = uid_end(s, a, stop);
-        if e == a {
+    let mut rest = trimmed(value);
+    for _ in 0..MOST_UIDS {
+        let n = uid_len(rest);
+        if n == 0 || LONGEST_UID < n {
             return true;
         }
-        if LONGEST_UID < e - a {
-            return true;
-        }
-        if e == stop {
+        if n == rest.len() {
             return false;
         }
-        a = e + 1;
-        left -= 1;
+        rest = &rest[n + 1..];
     }
     true
 }
@@ -147,13 +123,12 @@ pub fn uids_fault(s: &[u8], from: usize, to: usize) -> bool
 // A number in decimal at `pos`; the place past it. It calls itself once for each digit but the last.
 pub fn put_decimal(n: usize, out: &mut [u8], pos: usize) -> usize
     requires { pos + length (decimal n) < 2 ^ 64 }
-    ensures { (result ≡ pos + length (decimal n)) × (out.new ≡ laid out.old pos (decimal n)) }
+    ensures { Puts (decimal n) out.old pos out.new result }
 {
-    if n < 10 {
-        buffer::put(out, pos, DIGIT_0 + n as u8);
-        return pos + 1;
-    }
-    let p = put_decimal(n / 10, out, pos);
+    let p = match n / 10 {
+        0 => pos,
+        tens => put_decimal(tens, out, pos),
+    };
     buffer::put(out, p, DIGIT_0 + (n % 10) as u8);
     p + 1
 }
@@ -161,9 +136,9 @@ pub fn put_decimal(n: usize, out: &mut [u8], pos: usize) -> usize
 // A new UID at `pos`: the root, a dot and the number; the place past it.
 pub fn put_uid(root: &[u8], n: usize, out: &mut [u8], pos: usize) -> usize
     requires { pos + length (new_uid root.now n) < 2 ^ 64 }
-    ensures { (result ≡ pos + length (new_uid root.now n)) × (out.new ≡ laid out.old pos (new_uid root.now n)) }
+    ensures { Puts (new_uid root.now n) out.old pos out.new result }
 {
-    let p = buffer::copy_block(root, 0, root.len(), out, pos);
+    let p = buffer::copy_block(root, out, pos);
     buffer::put(out, p, DOT);
     put_decimal(n, out, p + 1)
 }

@@ -10,107 +10,85 @@ ghost use Rattle.view.specs.Search.{sought_in, search_of, SoughtFits};
 ghost use Rattle.view.specs.View.{view_of, refusal_of, offset_of, found_of, Shows, Fits};
 ghost use Rattle.view.specs.Met.{met_of};
 
-use layout::{Container, Head, Shape};
+use layout::{Container, Head};
+use refusals::{Fault, Refusal};
+use std::ops::Range;
 
-// What the search answers.
-#[derive(Clone, Copy)]
-pub enum Sought {
-    // the element: its VR, where the part after its length field begins, and the place past it
-    At(u64, usize, usize),
-    // no fault, and no such element on the top level
-    Absent,
-    // a refusal: its number and its offset
-    Refused(u8, usize),
+// An element of the top level: its VR, where the part after its length field begins, and the place past it.
+#[derive(Clone, Copy, Debug, PartialEq, Eq)]
+pub struct Attribute {
+    pub vr: u64,
+    pub body: usize,
+    pub past: usize,
 }
 
-// What the view answers.
-#[derive(Clone, Copy)]
-pub enum ViewAnswer {
-    // the attribute: where the part that is shown begins, and the place past it
-    Found(usize, usize),
-    // no fault, and no such attribute on the top level
-    Absent,
-    // a refusal: its number and its offset
-    Refused(u8, usize),
-}
-
-// What is known once the element `tag` was passed: the first that is wanted stays.
-fn met(got: Sought, tag: u64, wanted: u64, vr: u64, body: usize, past: usize) -> Sought
-    ensures { result ≡ met_of got tag wanted vr body past }
+// What is found once the element `tag` was passed: the first that is wanted stays.
+fn met(found: Option<Attribute>, tag: u64, wanted: u64, passed: Attribute) -> Option<Attribute>
+    ensures { result ≡ met_of found tag wanted passed }
 {
-    match got {
-        Sought::At(v, a, b) => Sought::At(v, a, b),
-        Sought::Refused(n, offset) => Sought::Refused(n, offset),
-        Sought::Absent => {
-            if tag == wanted {
-                return Sought::At(vr, body, past);
-            }
-            Sought::Absent
-        }
-    }
+    found.or((tag == wanted).then_some(passed))
 }
 
 // The search in a data set of any length.
-fn seek(s: &[u8], wanted: u64) -> Sought
+fn seek(s: &[u8], wanted: u64) -> Result<Option<Attribute>, Fault>
     ensures { (result ≡ sought_in (read deepest (explicitly s.now)) wanted) × SoughtFits (length s.now) result }
 {
     let mut at = 0;
     let mut low: u64 = 0;
-    let mut got = Sought::Absent;
+    let mut found = None;
     loop {
-        let h = layout::element_head(s, at, s.len(), false, low);
-        match h {
-            Head::Bad(n) => return Sought::Refused(n, at),
-            Head::End(_) => return got,
-            Head::Plain(tag, vr, body, past) => {
-                got = met(got, tag, wanted, vr, body, past);
-                at = past;
-                low = tag + 1;
-            }
-            Head::Seq(tag, body, stop, m) => {
+        let head = layout::located(layout::element_head(s, at, s.len(), false, low), at)?;
+        let (tag, vr, body, past) = match head {
+            Head::End(_) => return Ok(found),
+            Head::Plain {
+                tag,
+                vr,
+                body,
+                past,
+            } => (tag, vr, body, past),
+            Head::Seq {
+                tag,
+                body,
+                stop,
+                unstated,
+            } => {
                 let held = Container {
                     from: body,
                     end: stop,
-                    unstated: m,
+                    unstated,
                     depth: layout::DEEPEST,
                 };
-                let q = layout::sequence(s, held);
-                match q {
-                    Shape::Fault(n, offset) => return Sought::Refused(n, offset),
-                    Shape::Fine(past) => {
-                        got = met(got, tag, wanted, vr::SQ, body, past);
-                        at = past;
-                        low = tag + 1;
-                    }
-                }
+                (tag, vr::SQ, body, layout::sequence(s, held)?)
             }
-        }
+        };
+        found = met(found, tag, wanted, Attribute { vr, body, past });
+        at = past;
+        low = tag + 1;
     }
 }
 
-// The search for every data set and tag.
-pub fn search(s: &[u8], tag: u64) -> Sought
+// The search for every data set and tag: the element, or None where there is no such element on the top level.
+#[tactic(auto, unfolding(crate::specs::Search::search_of))]
+pub fn search(s: &[u8], tag: u64) -> Result<Option<Attribute>, Fault>
     ensures { (result ≡ search_of (explicitly s.now) tag) × SoughtFits (length s.now) result }
 {
     if layout::LONGEST < s.len() {
-        return Sought::Refused(refusals::TOO_LONG, 0);
+        return Err(Refusal::TooLong.as_fault());
     }
     seek(s, tag)
 }
 
-// The answer for every data set and tag: what the search found, whatever its VR.
-pub fn answer_to(s: &[u8], tag: u64) -> ViewAnswer
+// The answer for every data set and tag: the part that the search found, whatever its VR.
+#[tactic(auto, unfolding(crate::specs::View::view_of))]
+pub fn answer_to(s: &[u8], tag: u64) -> Result<Option<Range<usize>>, Fault>
     ensures { (result ≡ view_of (explicitly s.now) tag) × Fits (length s.now) result }
 {
-    let a = search(s, tag);
-    match a {
-        Sought::At(_, body, past) => ViewAnswer::Found(body, past),
-        Sought::Absent => ViewAnswer::Absent,
-        Sought::Refused(n, offset) => ViewAnswer::Refused(n, offset),
-    }
+    let found = search(s, tag)?;
+    Ok(found.map(|attribute| attribute.body..attribute.past))
 }
 
 // The answer's numbers, and the part of `lent` that is the attribute, or an empty part.
+// Its numbers go out by `&mut`, since the documents name this contract, which tells each of them.
 pub fn view<'a>(
     lent: &'a [u8],
     tag: u64,
@@ -126,16 +104,15 @@ pub fn view<'a>(
     *refusal = 0;
     *offset = 0;
     *found = 0;
-    let a = answer_to(lent, tag);
-    match a {
-        ViewAnswer::Found(body, past) => {
+    match answer_to(lent, tag) {
+        Ok(Some(part)) => {
             *found = 1;
-            &lent[body..past]
+            &lent[part]
         }
-        ViewAnswer::Absent => &lent[0..0],
-        ViewAnswer::Refused(n, at) => {
-            *refusal = n as u64;
-            *offset = at as u64;
+        Ok(None) => &lent[0..0],
+        Err(fault) => {
+            *refusal = u64::from(fault.refusal.number());
+            *offset = fault.offset as u64;
             &lent[0..0]
         }
     }

@@ -1,14 +1,13 @@
 -- Laws of `specs/Kinds.antt`. No contract cites this file. Assumes nothing.
 --     tried first r n              a test: r has the right two bits for each of the first n second letters
 --     tried-kinds, kinds-none      r holds the kinds where it passes for all 32; 0 does where no VR has the first letter
---     kinds-at                     the two bits of a VR
---     kind_of-letters              what has no second letter from 64 to 95 is Unknown
---     number-short, number-long, number-sequence, number-unknown    the kind that a number stands for
+--     kind_of-letters              what has no second letter from 64 to 95 is unknown
 use mathlib.Core.Path.{◌≡◌, refl, sym, ◌∙◌}
 use mathlib.Core.Logic.{⊎_elim}
 use mathlib.Core.Bool.{Bool, true, false, ◌&&◌}
 use mathlib.Core.List.{List, [], ◌∷◌}
-use Prim.Native.Nat.{ℕ, zero, suc, ◌+◌, ◌-◌, ◌*◌, ◌/◌, ◌%◌, ◌^◌, ◌<◌, ◌≤◌}
+use Rattle.std.specs.Prelude.{None}
+use Prim.Native.Nat.{ℕ, zero, suc, ◌+◌, ◌*◌, ◌/◌, ◌%◌, ◌^◌, ◌<◌, ◌≤◌}
 use native.Mathlib.Nat.{le_of_suc-le-suc, not-suc-le-zero, eq-or-lt_of_le, zero-div}
 use native.Mathlib.Omega.{arith}
 use lib.Dec.{eqb, leb, leb→le}
@@ -17,8 +16,6 @@ use Rattle.basis.specs.Choice.{among}
 use Rattle.basis.proofs.ChoiceLaws.{both-true}
 use Rattle.vr.specs.Vr.{all_vrs, kind_of}
 use Rattle.vr.specs.Kinds.{kind_number, KindsAfter}
-use Rattle.vr.specs.declared.Kind.{Kind}
-use Rattle.vr.specs.declared.Kind.TheVariants.{Unknown, Short, Long, Sequence}
 use Rattle.vr.proofs.VrLaws.{all_vrs-each, kind_of-unknown}
 
 -- ---- KindsAfter
@@ -45,10 +42,10 @@ tried-kinds first k r same t = rw same (λ letter h. eqb-true _ _ (tried-at k r 
 abbrev pub firsts : List ℕ
 firsts = 0x41 ∷ 0x43 ∷ 0x44 ∷ 0x46 ∷ 0x49 ∷ 0x4C ∷ 0x4F ∷ 0x50 ∷ 0x53 ∷ 0x54 ∷ 0x55 ∷ []
 
-outside : (vr : ℕ) → (among vr all_vrs ≡ true → ⊥) → kind_of vr ≡ Unknown
+outside : (vr : ℕ) → (among vr all_vrs ≡ true → ⊥) → kind_of vr ≡ None
 outside vr n = step (among vr all_vrs) refl
   where
-    step : (b : Bool) → among vr all_vrs ≡ b → kind_of vr ≡ Unknown
+    step : (b : Bool) → among vr all_vrs ≡ b → kind_of vr ≡ None
     step true e = absurd (n e)
     step false e = kind_of-unknown vr e
 
@@ -70,39 +67,8 @@ kinds-none first h none letter l =
 second-all_vrs : (vr : ℕ) → among vr all_vrs ≡ true → (leb 64 (vr / 256) && leb (vr / 256) 95) ≡ true
 second-all_vrs = all_vrs-each (λ v. leb 64 (v / 256) && leb (v / 256) 95) true refl
 
-pub kind_of-letters : (vr : ℕ) → (64 ≤ vr / 256 → vr / 256 ≤ 95 → ⊥) → kind_of vr ≡ Unknown
+pub kind_of-letters : (vr : ℕ) → (64 ≤ vr / 256 → vr / 256 ≤ 95 → ⊥) → kind_of vr ≡ None
 kind_of-letters vr n =
     outside vr (λ e.
     let b = both-true (leb 64 (vr / 256)) (leb (vr / 256) 95) (second-all_vrs vr e) in
     n (leb→le 64 (vr / 256) (rw b.0 tt)) (leb→le (vr / 256) 95 (rw b.1 tt)))
-
-pub kinds-at : (vr r : ℕ) → KindsAfter (vr % 256) r → 64 ≤ vr / 256 → vr / 256 ≤ 95 → r / 2 ^ (2 * (vr / 256 - 64)) % 4 ≡ kind_number (kind_of vr)
-kinds-at vr r kinds low high =
-    let whole : vr % 256 + 256 * (64 + (vr / 256 - 64)) ≡ vr = omega arith in
-    rw whole at (kinds (vr / 256 - 64) (omega arith))
-
--- ---- kind_number
-
-pub number-short : (k : Kind) → kind_number k ≡ 1 → k ≡ Short
-number-short Unknown e = absurd (omega arith)
-number-short Short e = refl
-number-short Long e = absurd (omega arith)
-number-short Sequence e = absurd (omega arith)
-
-pub number-long : (k : Kind) → kind_number k ≡ 2 → k ≡ Long
-number-long Unknown e = absurd (omega arith)
-number-long Short e = absurd (omega arith)
-number-long Long e = refl
-number-long Sequence e = absurd (omega arith)
-
-pub number-sequence : (k : Kind) → kind_number k ≡ 3 → k ≡ Sequence
-number-sequence Unknown e = absurd (omega arith)
-number-sequence Short e = absurd (omega arith)
-number-sequence Long e = absurd (omega arith)
-number-sequence Sequence e = refl
-
-pub number-unknown : (k : Kind) → (kind_number k ≡ 1 → ⊥) → (kind_number k ≡ 2 → ⊥) → (kind_number k ≡ 3 → ⊥) → k ≡ Unknown
-number-unknown Unknown a b c = refl
-number-unknown Short a b c = absurd (a refl)
-number-unknown Long a b c = absurd (b refl)
-number-unknown Sequence a b c = absurd (c refl)

@@ -2,26 +2,28 @@
 -- No contract cites this file. Assumes nothing.
 --     all_vrs-spelt      each name is the number that its own letters spell
 --     all_vrs-each       what f is at each of the 34, it is at every one of them
---     kind_of-unknown    what is not among the 34 is Unknown
---     kind_of-all_vrs    what is not Unknown is among them
+--     kind_of-unknown      what is not among the 34 is unknown
+--     kind_of-all_vrs    what has a kind is among them
 --     kind_of-sequence   SQ alone is Sequence
 --     all_vrs-two        the letters of a VR are two bytes
---     dummy_of-short     a dummy has at most 14 bytes
+--     dummy_of-short     a dummy has at most 14 bytes, whatever the VR is
 use mathlib.Core.Path.{◌≡◌, refl}
 use mathlib.Core.Bool.{Bool, true, false}
 use mathlib.Core.List.{[], ◌∷◌, map}
+use Rattle.std.specs.Prelude.{None, Some}
 use Prim.Native.Nat.{ℕ, ◌≤◌, ◌<◌}
 use native.Mathlib.Omega.{arith}
-use lib.Dec.{eqb, ltb, leb, ltb→lt, leb→le}
+use lib.Dec.{eqb, ltb, ltb→lt}
 use lib.ListN.{length, replicate}
 use borrow.Author.Tests.{eqb-true}
+use Rattle.std.proofs.lemmas.Bool.Decides.{nat_tests}
 use Rattle.basis.specs.Choice.{pick, among}
 use Rattle.basis.specs.Bytes.{le2}
 use Rattle.basis.specs.Text.{ascii}
 use Rattle.basis.proofs.ChoiceLaws.{among-each, among-less, eqb-less}
 use Rattle.vr.specs.Names.{SQ}
 use Rattle.vr.specs.Vr.{all_vrs, long, kind_of, dummy_of}
-use Rattle.vr.specs.declared.Kind.TheVariants.{Unknown, Short, Long, Sequence}
+use Rattle.vr.specs.declared.Kind.TheVariants.{Short, Long, Sequence}
 
 -- ---- known
 
@@ -44,22 +46,22 @@ long-all_vrs : map (λ v. among v all_vrs) long ≡ replicate 13 true
 unfolding among
 long-all_vrs = refl
 
-pub kind_of-unknown : (vr : ℕ) → among vr all_vrs ≡ false → kind_of vr ≡ Unknown
+pub kind_of-unknown : (vr : ℕ) → among vr all_vrs ≡ false → kind_of vr ≡ None
 unfolding kind_of
 kind_of-unknown vr none = rw (eqb-less vr SQ all_vrs sq-all_vrs none, among-less vr long all_vrs long-all_vrs none, none)
 
-pub kind_of-all_vrs : (vr : ℕ) → (kind_of vr ≡ Unknown → ⊥) → among vr all_vrs ≡ true
+pub kind_of-all_vrs : (vr : ℕ) → (kind_of vr ≡ None → ⊥) → among vr all_vrs ≡ true
 kind_of-all_vrs vr n = step (among vr all_vrs) refl
   where
     step : (b : Bool) → among vr all_vrs ≡ b → b ≡ true
     step true e = refl
     step false e = absurd (n (kind_of-unknown vr e))
 
-pub kind_of-sequence : (vr : ℕ) → kind_of vr ≡ Sequence → vr ≡ SQ
+pub kind_of-sequence : (vr : ℕ) → kind_of vr ≡ Some Sequence → vr ≡ SQ
 unfolding kind_of
 kind_of-sequence vr e = step (eqb vr SQ) (among vr long) (among vr all_vrs) refl e
   where
-    step : (a b c : Bool) → eqb vr SQ ≡ a → pick a Sequence (pick b Long (pick c Short Unknown)) ≡ Sequence → vr ≡ SQ
+    step : (a b c : Bool) → eqb vr SQ ≡ a → pick a (Some Sequence) (pick b (Some Long) (pick c (Some Short) None)) ≡ Some Sequence → vr ≡ SQ
     step true b c q e = eqb-true vr SQ q
     step false true c q e = absurd (let z : ◌≡◌ {A = ℕ} 0 1 = cc in omega arith)
     step false false true q e = absurd (let z : ◌≡◌ {A = ℕ} 0 1 = cc in omega arith)
@@ -67,6 +69,6 @@ kind_of-sequence vr e = step (eqb vr SQ) (among vr long) (among vr all_vrs) refl
 
 -- ---- dummy_of
 
-pub dummy_of-short : (vr : ℕ) → among vr all_vrs ≡ true → length (dummy_of vr) ≤ 14
+pub dummy_of-short : (vr : ℕ) → length (dummy_of vr) ≤ 14
 unfolding dummy_of among
-dummy_of-short vr is = leb→le (length (dummy_of vr)) 14 (rw (all_vrs-each (λ v. leb (length (dummy_of v)) 14) true refl vr is) tt)
+dummy_of-short vr = grind (arith, nat_tests)

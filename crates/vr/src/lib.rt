@@ -1,8 +1,9 @@
-// What document 01 says of each of the 34 VRs. A VR is the number that its two letters spell, lowest byte first.
+// What document 01 says of each of the 34 VRs. A VR is the number that its two letters spell, lowest byte first. It is no enum: what is asked
+// of a VR here, in `treatment` and over the C interface has an answer for every number.
 #![tactic(auto)]
 
-ghost use Rattle.std.specs.Prelude.{◌≡◌, ◌<◌, length};
-ghost use Rattle.vr.specs.Vr.{all_vrs, kind_of, served_by_lists, dummy_of, in_room};
+ghost use Rattle.std.specs.Prelude.{◌≡◌, ◌<◌};
+ghost use Rattle.vr.specs.Vr.{all_vrs, kind_of, served_by_lists, dummy_of};
 ghost use Rattle.vr.specs.Kinds.{KindsAfter};
 
 pub const AE: u64 = 0x4541;
@@ -73,14 +74,9 @@ pub const UT: u64 = 0x5455;
 
 pub const UV: u64 = 0x5655;
 
-// The longest dummy, DT's.
-const ROOM: usize = 14;
-
 // How an element's header goes on after its VR.
-#[derive(Clone, Copy)]
+#[derive(Clone, Copy, Debug, PartialEq, Eq)]
 pub enum Kind {
-    // no VR of document 01
-    Unknown,
     // a length of two bytes
     Short,
     // two zero bytes and a length of four
@@ -133,90 +129,47 @@ fn kinds_after(first: u64) -> u64
 
 // The plain way is a `match` over the 34. This is asked of each element three times and more: a number that holds the kinds of all VRs with one
 // first letter is short enough to be written out wherever it is asked, and leaves little to be guessed.
-pub fn kind_of(vr: u64) -> Kind
+pub fn kind_of(vr: u64) -> Option<Kind>
     ensures { result ≡ kind_of vr }
 {
     let second = vr / 256;
-    if second < 64 {
-        return Kind::Unknown;
-    }
-    if 95 < second {
-        return Kind::Unknown;
+    if !(64..96).contains(&second) {
+        return None;
     }
     let kinds = kinds_after(vr % 256);
-    let kind = (kinds >> (2 * (second - 64))) % 4;
-    if kind == 1 {
-        return Kind::Short;
+    match (kinds >> (2 * (second - 64))) % 4 {
+        1 => Some(Kind::Short),
+        2 => Some(Kind::Long),
+        3 => Some(Kind::Sequence),
+        _ => None,
     }
-    if kind == 2 {
-        return Kind::Long;
-    }
-    if kind == 3 {
-        return Kind::Sequence;
-    }
-    Kind::Unknown
 }
 
+#[tactic(auto, unfolding(crate::specs::Vr::served_by_lists, basis::specs::Choice::among))]
 pub fn served_by_lists(vr: u64) -> bool
     ensures { result ≡ served_by_lists vr }
 {
-    match vr {
-        AE | AS | CS | DA | DT | IS | LO | LT | PN | SH | ST | TM | UC | UR | UT => true,
-        DS => true,
-        _ => false,
-    }
+    matches!(
+        vr,
+        AE | AS | CS | DA | DS | DT | IS | LO | LT | PN | SH | ST | TM | UC | UR | UT
+    )
 }
 
-// A dummy: `len` bytes, and zeros after them.
-#[derive(Clone, Copy)]
-pub struct Dummy {
-    pub bytes: [u8; ROOM],
-    pub len: usize,
-}
-
-pub fn dummy_of(vr: u64) -> Dummy
-    ensures { (result.bytes ≡ in_room (dummy_of vr)) × (result.len ≡ length (dummy_of vr)) }
+// What D writes where no list has a value; the value is padded where it is written.
+#[tactic(auto, unfolding(crate::specs::Vr::dummy_of, basis::specs::Choice::among))]
+pub fn dummy_of(vr: u64) -> &'static [u8]
+    ensures { result.now ≡ dummy_of vr }
 {
     match vr {
-        AE | CS | LO | LT | PN | SH | ST | UC | UR | UT => Dummy {
-            bytes: *b"ANON\0\0\0\0\0\0\0\0\0\0",
-            len: 4,
-        },
-        AS => Dummy {
-            bytes: *b"000Y\0\0\0\0\0\0\0\0\0\0",
-            len: 4,
-        },
-        DA => Dummy {
-            bytes: *b"19000101\0\0\0\0\0\0",
-            len: 8,
-        },
-        DT => Dummy {
-            bytes: *b"19000101000000",
-            len: 14,
-        },
-        TM => Dummy {
-            bytes: *b"000000\0\0\0\0\0\0\0\0",
-            len: 6,
-        },
-        DS | IS => Dummy {
-            bytes: *b"0\0\0\0\0\0\0\0\0\0\0\0\0\0",
-            len: 1,
-        },
-        OB | OW | UN | US | SS => Dummy {
-            bytes: [0; ROOM],
-            len: 2,
-        },
-        AT | FL | OF | OL | SL | UL => Dummy {
-            bytes: [0; ROOM],
-            len: 4,
-        },
-        FD | OD | OV | SV | UV => Dummy {
-            bytes: [0; ROOM],
-            len: 8,
-        },
-        _ => Dummy {
-            bytes: [0; ROOM],
-            len: 0,
-        },
+        AE | CS | LO | LT | PN | SH | ST | UC | UR | UT => b"ANON",
+        AS => b"000Y",
+        DA => b"19000101",
+        DT => b"19000101000000",
+        TM => b"000000",
+        DS | IS => b"0",
+        OB | OW | UN | US | SS => &[0; 2],
+        AT | FL | OF | OL | SL | UL => &[0; 4],
+        FD | OD | OV | SV | UV => &[0; 8],
+        _ => &[],
     }
 }

@@ -7,12 +7,15 @@ use mathlib.Core.Path.{◌≡◌, refl, sym, ap, subst, ◌∙◌}
 use mathlib.Core.Bool.{Bool, true, false}
 use mathlib.Core.Logic.{◌⊎◌, inl, inr}
 use mathlib.Core.List.{List, [], ◌++◌, map, append-nil}
-use mathlib.Core.Option.{none, some}
-use Prim.Native.Nat.{ℕ, suc, ◌+◌, ◌-◌, ◌*◌, ◌≤◌, ◌<◌}
+use Rattle.std.specs.Prelude.{None, Some}
+use Prim.Native.Nat.{ℕ, ◌+◌, ◌-◌, ◌*◌, ◌≤◌, ◌<◌}
 use native.Mathlib.Omega.{arith}
 use lib.IntN.{ℤ}
 use lib.Dec.{eqb}
 use lib.ListN.{length, length-append}
+use Rattle.std.proofs.lemmas.Option.{none-some}
+use Rattle.refusals.specs.declared.Refusal.{Refusal}
+use Rattle.refusals.specs.declared.Refusal.TheVariants.{BadUids, BadDates}
 use Rattle.basis.specs.Bytes.{part}
 use Rattle.basis.specs.Choice.{pick}
 use Rattle.basis.proofs.BytesLaws.{length-part}
@@ -37,9 +40,7 @@ use Rattle.kept.specs.Counts.{Counts, counts, plus, one}
 use Rattle.kept.specs.Faults.{at, field_fault}
 use Rattle.treatment.proofs.FatesLaws.{fate-kept, fate-renamed, fate-shifted, fate-wrong}
 use Rattle.write_values.specs.Element.{element_bytes, with_lists}
-use Rattle.write_uids.specs.Renamed.{RenamedValue}
-use Rattle.write_uids.specs.declared.Renamed.{Renamed as Renaming}
-use Rattle.write_uids.specs.declared.Renamed.TheVariants.{Full, To as Renamed-To}
+use Rattle.write_uids.specs.Renamed.{Renaming, RenamedRightly, Bounds, RenamedValue}
 use Rattle.write_values.proofs.ElementLaws.{length-header, length-value}
 use Rattle.write_values.proofs.FillerLaws.{emptied-any, dummied-any, emptied-length, dummied-length}
 use Rattle.write_state.specs.Bounds.{one_element}
@@ -47,7 +48,6 @@ use Rattle.write_state.specs.Passed.{State, say, count, passed_one}
 use Rattle.write_state.specs.Steps.{one_kept, one_replaced, one_renamed, one_removed}
 use Rattle.write_state.specs.Wrote.{met, Wrote, Stands, ActPass}
 use Rattle.write_state.specs.declared.Progress.{Progress}
-use Rattle.write_state.specs.declared.Walk.TheVariants.{Stop, To}
 use Rattle.write_state.proofs.PassedLaws.{counts-is, one_removed as passed-removed, one_kept as passed-kept, one-shifted, one-emptied, one-dummied, one_renamed as passed-renamed}
 use Rattle.write_state.proofs.HoldsLaws.{holds-say, holds-count}
 
@@ -60,12 +60,12 @@ no-dates : {vr : ℕ} → (vr ≡ DA) ⊎ (vr ≡ DT) → vr ≡ SQ → ⊥
 no-dates (inl p) q = omega arith
 no-dates (inr p) q = omega arith
 
-fault-none : (t : Bool) (n offset : ℕ) → at (pick t (suc n) 0) offset ≡ none → t ≡ false
-fault-none true n offset e = absurd (let z : ◌≡◌ {A = ℕ} 0 1 = cc in omega arith)
-fault-none false n offset e = refl
+fault-none : (t : Bool) (r : Refusal) (offset : ℕ) → at (pick t (Some r) None) offset ≡ None → t ≡ false
+fault-none true r offset e = absurd (none-some _ (sym e))
+fault-none false r offset e = refl
 
 module _ {w : Settings} {tag vr : ℕ} {s : List ℕ} {from to next : ℕ} {st st' : State} where
-  sound-as : {φ : Fate} (a : ActPass w φ tag vr s from to next st st') → field_fault a.field w a.level φ vr a.one.place.at ≡ none
+  sound-as : {φ : Fate} (a : ActPass w φ tag vr s from to next st st') → field_fault a.field w a.level φ vr a.one.place.at ≡ None
   sound-as a = ap (λ φ. field_fault a.field w a.level φ vr a.one.place.at) (sym a.fate_is) ∙ a.one.sound
 
   pub removed-case : ActPass w Removed tag vr s from to next st st' → st' ≡ count st (one Removed)
@@ -99,18 +99,18 @@ module _ {w : Settings} {tag vr : ℕ} {s : List ℕ} {from to next : ℕ} {st s
   unfolding field_fault shifted_as
   shifted-case a = a.one.ends ∙ step a.field a.stands (sound-as a)
     where
-      step : (f : Field Place) → Stands f vr s from to → field_fault f w a.level Shifted vr a.one.place.at ≡ none
+      step : (f : Field Place) → Stands f vr s from to → field_fault f w a.level Shifted vr a.one.place.at ≡ None
           → passed_one w a.level (elem a.one.place tag vr f nil) st
           ≡ count (say st (element_bytes tag vr (value (shifted_text (eqb vr DA) w.shift (part s from to))))) (one Shifted)
       step (value v) h n =
-          let good : shifted_value (eqb vr DA) w.shift v ≡ some (shifted_text (eqb vr DA) w.shift v) = shifted_value-good (eqb vr DA) w.shift v (fault-none _ 11 _ n) in
+          let good : shifted_value (eqb vr DA) w.shift v ≡ Some (shifted_text (eqb vr DA) w.shift v) = shifted_value-good (eqb vr DA) w.shift v (fault-none _ BadDates _ n) in
           one-shifted w a.level tag vr a.one.place st v a.fate_is
           ∙ ap (λ x. count (say st (element_bytes tag vr (value (or x v)))) (one Shifted)) good
           ∙ rw h.0
       step (items is) h n = absurd (no-dates (fate-shifted w a.level tag vr a.fate_is) h)
 
   pub renamed-case : ActPass w Renamed tag vr s from to next st st'
-      → (us : List (List ℕ)) × (uids_of (part s from to) ≡ some us)
+      → (us : List (List ℕ)) × (uids_of (part s from to) ≡ Some us)
       × (st'
       ≡ record {
         bytes = st.bytes ++ element_bytes tag UI (value (uids_text w.root (numbers same_uid st.slots (map slot_of us))));
@@ -123,9 +123,9 @@ module _ {w : Settings} {tag vr : ℕ} {s : List ℕ} {from to next : ℕ} {st s
       ui : vr ≡ UI
       ui = fate-renamed w a.level tag vr a.fate_is
 
-      step : (f : Field Place) → Stands f vr s from to → field_fault f w a.level Renamed vr a.one.place.at ≡ none
+      step : (f : Field Place) → Stands f vr s from to → field_fault f w a.level Renamed vr a.one.place.at ≡ None
           → st' ≡ passed_one w a.level (elem a.one.place tag vr f nil) st
-          → (us : List (List ℕ)) × (uids_of (part s from to) ≡ some us)
+          → (us : List (List ℕ)) × (uids_of (part s from to) ≡ Some us)
           × (st'
           ≡ record {
             bytes = st.bytes ++ element_bytes tag UI (value (uids_text w.root (numbers same_uid st.slots (map slot_of us))));
@@ -133,7 +133,7 @@ module _ {w : Settings} {tag vr : ℕ} {s : List ℕ} {from to next : ℕ} {st s
             tally = plus st.tally (one Renamed);
           })
       step (value v) h n e =
-          let found : (us : List (List ℕ)) × (uids_of v ≡ some us) = uids_of-found v (fault-none (uids_fault v) 10 _ n) in (
+          let found : (us : List (List ℕ)) × (uids_of v ≡ Some us) = uids_of-found v (fault-none (uids_fault v) BadUids _ n) in (
             found.0,
             ap uids_of (sym h.0) ∙ found.1,
             e ∙ passed-renamed w a.level tag vr a.one.place st v found.0 a.fate_is found.1 ∙ rw ui,
@@ -144,8 +144,8 @@ module _ {w : Settings} {tag vr : ℕ} {s : List ℕ} {from to next : ℕ} {st s
   unfolding field_fault
   wrong-case a = step a.field a.stands (sound-as a)
     where
-      step : (f : Field Place) → Stands f vr s from to → field_fault f w a.level Wrong vr a.one.place.at ≡ none → ⊥
-      step (value v) h n = let z : ◌≡◌ {A = ℕ} 0 1 = cc in omega arith
+      step : (f : Field Place) → Stands f vr s from to → field_fault f w a.level Wrong vr a.one.place.at ≡ None → ⊥
+      step (value v) h n = none-some _ (sym n)
       step (items is) h n = (fate-wrong w a.level tag vr a.fate_is).1 h
 
 -- ---- the ways out
@@ -162,7 +162,7 @@ module _ {w : Settings} {φ : Fate} {tag vr : ℕ} {s : List ℕ} {from to : ℕ
       → met u ≡ met t + 1
       → counts u.kept u.replaced u.renamed u.removed ≡ plus (counts t.kept t.replaced t.renamed t.removed) (one φ)
       → ((next : ℕ) (st st' : State) → ActPass w φ tag vr s from to next st st' → st' ≡ count (say st xs) (one φ))
-      → Wrote (ActPass w φ tag vr s from to) from to one_element 1 o o' l l t (To to u)
+      → Wrote (ActPass w φ tag vr s from to) from to one_element 1 o o' l l t (Some (to, u))
   act-said {o'} {u} xs e p short q m c f = record {
     out_size = ap length e ∙ length-laid o t.pos xs;
     ledger_size = refl;
@@ -173,12 +173,12 @@ module _ {w : Settings} {φ : Fate} {tag vr : ℕ} {s : List ℕ} {from to : ℕ
   }
 
   pub act-stop : ((next : ℕ) (st st' : State) → ActPass w φ tag vr s from to next st st' → ⊥)
-      → Wrote (ActPass w φ tag vr s from to) from to one_element 1 o o l l t Stop
+      → Wrote (ActPass w φ tag vr s from to) from to one_element 1 o o l l t None
   act-stop f = record { out_size = refl; ledger_size = refl; slots_kept = refl; bounds = tt; right = λ next st st' a out₀ l₀ base h. absurd (f next st st' a) }
 
-module _ {w : Settings} {tag vr : ℕ} {s : List ℕ} {from to : ℕ} {o o' l l' : List ℕ} {t : Progress} {r : Renaming} (rises : from ≤ to)
-    (q : RenamedValue tag s from to w.root l l' t.used o o' t.pos r) where
-  pub act-full : r ≡ Full → Wrote (ActPass w Renamed tag vr s from to) from to one_element 1 o o' l l' t Stop
+module _ {w : Settings} {tag vr : ℕ} {s : List ℕ} {from to : ℕ} {o o' l l' : List ℕ} {t : Progress} {r : Renaming} (rises : from ≤ to) (in_s : to ≤ length s)
+    (q : RenamedValue tag (part s from to) w.root l l' t.used o o' t.pos r) where
+  pub act-full : r ≡ None → Wrote (ActPass w Renamed tag vr s from to) from to one_element 1 o o' l l' t None
   act-full e = record {
     out_size = q.out_size;
     ledger_size = q.ledger_size;
@@ -190,16 +190,16 @@ module _ {w : Settings} {tag vr : ℕ} {s : List ℕ} {from to : ℕ} {o o' l l'
         rw c.2 (omega (arith, rw h.slots_are at full, ap length h.ledger_is, length-laid l₀ 0 (flat st.slots)));
   }
 
-  pub act-renamed : (p m : ℕ) → r ≡ Renamed-To p m → Wrote (ActPass w Renamed tag vr s from to) from to one_element 1 o o' l l' t (To to (one_renamed t p m))
+  pub act-renamed : (p m : ℕ) → r ≡ Some (p, m) → Wrote (ActPass w Renamed tag vr s from to) from to one_element 1 o o' l l' t (Some (to, one_renamed t p m))
   act-renamed p m e =
-      let b : Rattle.write_uids.specs.Renamed.Bounds t.pos (9 + 66 * (to - from + 1)) t.used (slots_of l) (Renamed-To p m) = rw e at q.bounds in record {
+      let b : Bounds t.pos (9 + 66 * (length (part s from to) + 1)) t.used (slots_of l) (Some (p, m)) = rw e at q.bounds in record {
         out_size = q.out_size;
         ledger_size = q.ledger_size;
         slots_kept = q.kept;
-        bounds = omega arith;
+        bounds = omega (arith, length-part s from to in_s);
         right = λ next st st' a out₀ l₀ base h.
             let c = renamed-case a in
-            let x : Rattle.write_uids.specs.Renamed.RenamedRightly o o' t.pos (element_bytes tag UI (value (uids_text w.root (numbers same_uid st.slots (map slot_of c.0))))) l l' (learns same_uid st.slots (map slot_of c.0)) (Renamed-To p m) =
+            let x : RenamedRightly o o' t.pos (element_bytes tag UI (value (uids_text w.root (numbers same_uid st.slots (map slot_of c.0))))) l l' (learns same_uid st.slots (map slot_of c.0)) (Some (p, m)) =
             rw (e, h.slots_are) at (q.right c.0 c.1) in (
               a.next_is,
               rw c.2 (record {
@@ -216,18 +216,18 @@ module _ {w : Settings} {tag vr : ℕ} {s : List ℕ} {from to : ℕ} {o o' l l'
 
 -- ---- the ways out by the code's own words: an answer of `act`'s proof each
 
-module _ {w : Settings} {tag vr : ℕ} {s : List ℕ} {from to : ℕ} {o l : List ℕ} {t : Progress} (f : Fate) (fits : t.used ≤ slots_of l) (rises : from ≤ to) where
-  pub way-removed : f ≡ Removed → {u : Progress} → u ≡ one_removed t → Wrote (ActPass w f tag vr s from to) from to one_element 1 o o l l t (To to u)
+module _ {w : Settings} {tag vr : ℕ} {s : List ℕ} {from to : ℕ} {o l : List ℕ} {t : Progress} {f : Fate} (fits : t.used ≤ slots_of l) (rises : from ≤ to) where
+  pub way-removed : f ≡ Removed → {u : Progress} → u ≡ one_removed t → Wrote (ActPass w f tag vr s from to) from to one_element 1 o o l l t (Some (to, u))
   way-removed e {u} eu =
-      subst (λ φ. Wrote (ActPass w φ tag vr s from to) from to one_element 1 o o l l t (To to u)) (sym e)
+      subst (λ φ. Wrote (ActPass w φ tag vr s from to) from to one_element 1 o o l l t (Some (to, u))) (sym e)
       (rw eu (act-said fits rises [] (sym (laid-none o t.pos)) (omega arith) (omega arith) refl (omega arith)
       (counts-is (omega arith) (omega arith) (omega arith) (omega arith)) (λ next st st' a. removed-case a ∙ said-none st (one Removed))))
 
   pub way-kept : f ≡ Kept → to ≤ length s → {u : Progress} {p : ℕ} {o' : List ℕ} → u ≡ one_kept t p
       → (p ≡ t.pos + length (element_bytes tag vr (value (part s from to)))) × (o' ≡ laid o t.pos (element_bytes tag vr (value (part s from to))))
-      → Wrote (ActPass w f tag vr s from to) from to one_element 1 o o' l l t (To to u)
+      → Wrote (ActPass w f tag vr s from to) from to one_element 1 o o' l l t (Some (to, u))
   way-kept e in_s {u} {p} {o'} eu q =
-      subst (λ φ. Wrote (ActPass w φ tag vr s from to) from to one_element 1 o o' l l t (To to u)) (sym e)
+      subst (λ φ. Wrote (ActPass w φ tag vr s from to) from to one_element 1 o o' l l t (Some (to, u))) (sym e)
       (rw eu (act-said fits rises _ q.1 q.0
       (omega (arith, length-value tag vr (part s from to), length-header tag vr (length (part s from to)), length-part s from to in_s)) refl (omega arith)
       (counts-is (omega arith) (omega arith) (omega arith) (omega arith)) (λ next st st' a. kept-case a)))
@@ -235,18 +235,18 @@ module _ {w : Settings} {tag vr : ℕ} {s : List ℕ} {from to : ℕ} {o l : Lis
   pub way-emptied : f ≡ Emptied → {u : Progress} {p : ℕ} {o' : List ℕ} → u ≡ one_replaced t p
       → (p ≡ t.pos + length (element_bytes tag vr (emptied_as (with_lists w.study w.site) tag vr)))
       × (o' ≡ laid o t.pos (element_bytes tag vr (emptied_as (with_lists w.study w.site) tag vr)))
-      → Wrote (ActPass w f tag vr s from to) from to one_element 1 o o' l l t (To to u)
+      → Wrote (ActPass w f tag vr s from to) from to one_element 1 o o' l l t (Some (to, u))
   way-emptied e {u} {p} {o'} eu q =
-      subst (λ φ. Wrote (ActPass w φ tag vr s from to) from to one_element 1 o o' l l t (To to u)) (sym e)
+      subst (λ φ. Wrote (ActPass w φ tag vr s from to) from to one_element 1 o o' l l t (Some (to, u))) (sym e)
       (rw eu (act-said fits rises _ q.1 q.0 (omega (arith, emptied-length (with_lists w.study w.site) tag vr)) refl (omega arith)
       (counts-is (omega arith) (omega arith) (omega arith) (omega arith)) (λ next st st' a. emptied-case a)))
 
   pub way-dummied : f ≡ Dummied → {u : Progress} {p : ℕ} {o' : List ℕ} → u ≡ one_replaced t p
       → (p ≡ t.pos + length (element_bytes tag vr (dummied_as (with_lists w.study w.site) tag vr)))
       × (o' ≡ laid o t.pos (element_bytes tag vr (dummied_as (with_lists w.study w.site) tag vr)))
-      → Wrote (ActPass w f tag vr s from to) from to one_element 1 o o' l l t (To to u)
+      → Wrote (ActPass w f tag vr s from to) from to one_element 1 o o' l l t (Some (to, u))
   way-dummied e {u} {p} {o'} eu q =
-      subst (λ φ. Wrote (ActPass w φ tag vr s from to) from to one_element 1 o o' l l t (To to u)) (sym e)
+      subst (λ φ. Wrote (ActPass w φ tag vr s from to) from to one_element 1 o o' l l t (Some (to, u))) (sym e)
       (rw eu (act-said fits rises _ q.1 q.0 (omega (arith, dummied-length (with_lists w.study w.site) tag vr)) refl (omega arith)
       (counts-is (omega arith) (omega arith) (omega arith) (omega arith)) (λ next st st' a. dummied-case a)))
 
@@ -254,9 +254,9 @@ module _ {w : Settings} {tag vr : ℕ} {s : List ℕ} {from to : ℕ} {o l : Lis
   pub way-shifted : f ≡ Shifted → to ≤ length s → {days : ℤ} → days ≡ w.shift → {u : Progress} {p : ℕ} {o' : List ℕ} → u ≡ one_replaced t p
       → (p ≡ t.pos + length (element_bytes tag vr (value (shifted_text (eqb vr DA) days (part s from to)))))
       × (o' ≡ laid o t.pos (element_bytes tag vr (value (shifted_text (eqb vr DA) days (part s from to)))))
-      → Wrote (ActPass w f tag vr s from to) from to one_element 1 o o' l l t (To to u)
+      → Wrote (ActPass w f tag vr s from to) from to one_element 1 o o' l l t (Some (to, u))
   way-shifted e in_s {days} same {u} {p} {o'} eu q =
-      subst (λ φ. Wrote (ActPass w φ tag vr s from to) from to one_element 1 o o' l l t (To to u)) (sym e)
+      subst (λ φ. Wrote (ActPass w φ tag vr s from to) from to one_element 1 o o' l l t (Some (to, u))) (sym e)
       (rw eu (act-said fits rises _ q.1 q.0
       (omega (
         arith,
@@ -268,15 +268,15 @@ module _ {w : Settings} {tag vr : ℕ} {s : List ℕ} {from to : ℕ} {o l : Lis
       (counts-is (omega arith) (omega arith) (omega arith) (omega arith))
       (λ next st st' a. shifted-case a ∙ ap (λ z. count (say st (element_bytes tag vr (value (shifted_text (eqb vr DA) z (part s from to))))) (one Shifted)) (sym same))))
 
-  pub way-full : f ≡ Renamed → {o' l' : List ℕ} {r : Renaming} → RenamedValue tag s from to w.root l l' t.used o o' t.pos r → r ≡ Full → Wrote (ActPass w f tag vr s from to) from to one_element 1 o o' l l' t Stop
-  way-full e {o'} {l'} q er = subst (λ φ. Wrote (ActPass w φ tag vr s from to) from to one_element 1 o o' l l' t Stop) (sym e) (act-full rises q er)
+  pub way-full : f ≡ Renamed → to ≤ length s → {o' l' : List ℕ} {r : Renaming} → RenamedValue tag (part s from to) w.root l l' t.used o o' t.pos r → r ≡ None
+      → Wrote (ActPass w f tag vr s from to) from to one_element 1 o o' l l' t None
+  way-full e in_s {o'} {l'} q er = subst (λ φ. Wrote (ActPass w φ tag vr s from to) from to one_element 1 o o' l l' t None) (sym e) (act-full rises in_s q er)
 
-  pub way-renamed : f ≡ Renamed → {o' l' : List ℕ} {r : Renaming} → RenamedValue tag s from to w.root l l' t.used o o' t.pos r → (p m : ℕ) → r ≡ Renamed-To p m
-      → {u : Progress} → u ≡ one_renamed t p m → Wrote (ActPass w f tag vr s from to) from to one_element 1 o o' l l' t (To to u)
-  way-renamed e {o'} {l'} q p m er {u} eu = subst (λ φ. Wrote (ActPass w φ tag vr s from to) from to one_element 1 o o' l l' t (To to u)) (sym e) (rw eu (act-renamed rises q p m er))
+  pub way-renamed : f ≡ Renamed → to ≤ length s → {o' l' : List ℕ} {r : Renaming} → RenamedValue tag (part s from to) w.root l l' t.used o o' t.pos r → {p m : ℕ}
+      → r ≡ Some (p, m) → {u : Progress} → u ≡ one_renamed t p m → Wrote (ActPass w f tag vr s from to) from to one_element 1 o o' l l' t (Some (to, u))
+  way-renamed e in_s {o'} {l'} q {p} {m} er {u} eu =
+      subst (λ φ. Wrote (ActPass w φ tag vr s from to) from to one_element 1 o o' l l' t (Some (to, u))) (sym e) (rw eu (act-renamed rises in_s q p m er))
 
-  pub way-walked : f ≡ Walked → Wrote (ActPass w f tag vr s from to) from to one_element 1 o o l l t Stop
-  way-walked e = subst (λ φ. Wrote (ActPass w φ tag vr s from to) from to one_element 1 o o l l t Stop) (sym e) (act-stop fits rises (λ next st st' a. a.is_shut refl))
-
-  pub way-wrong : f ≡ Wrong → Wrote (ActPass w f tag vr s from to) from to one_element 1 o o l l t Stop
-  way-wrong e = subst (λ φ. Wrote (ActPass w φ tag vr s from to) from to one_element 1 o o l l t Stop) (sym e) (act-stop fits rises (λ next st st' a. wrong-case a))
+  pub way-stop : (f ≡ Walked) ⊎ (f ≡ Wrong) → Wrote (ActPass w f tag vr s from to) from to one_element 1 o o l l t None
+  way-stop (inl e) = subst (λ φ. Wrote (ActPass w φ tag vr s from to) from to one_element 1 o o l l t None) (sym e) (act-stop fits rises (λ next st st' a. a.is_shut refl))
+  way-stop (inr e) = subst (λ φ. Wrote (ActPass w φ tag vr s from to) from to one_element 1 o o l l t None) (sym e) (act-stop fits rises (λ next st st' a. wrong-case a))

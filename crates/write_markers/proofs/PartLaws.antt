@@ -1,21 +1,19 @@
 -- Laws of `specs/Parts.antt`: the three elements are their pieces, and how long these are. No contract cites this file. Assumes nothing.
---     pad-none, pad-one, pad-short     the pad by the length before it
---     spaced-pad                       a spaced text is the text and its pad
 --     cs-short, sh-short, lo-short     the VRs of the texts have headers of eight bytes
 --     short-length, sequence-length, mark-length, text-length    how long a header, a mark, an element with a text is
---     head_of-parts, item-parts        an item's pieces
+--     item-parts                       an item's pieces
 --     codes-parts                      those of (0012,0064)
---     head_of-length, head-place, item-length, option-length, basic-length, options-length    how long the items are at most
---     codes-length, word-length, yes-due-length, codes-due-length, dates-due-length           likewise the elements
---     gained-length                    and all that is gained_if
+--     code-length, scheme-length, meaning-length      how long an item's elements are
+--     item-length, option-length, basic-length, options-length    how long the items are at most
+--     codes-length, word-length, yes-length, yes-due-length, codes-due-length, dates-due-length    likewise the elements
+--     gained-length                    and all that is gained
+use Rattle.std.specs.Prelude.{Some}
 use mathlib.Core.Path.{◌≡◌, refl, sym, ap, ap₂, ◌∙◌}
 use mathlib.Core.Bool.{Bool, true, false}
 use mathlib.Core.List.{List, [], ◌∷◌, ◌++◌, append_assoc, append-nil}
-use Prim.Native.Nat.{ℕ, ◌+◌, ◌*◌, ◌%◌, ◌≤◌}
+use Prim.Native.Nat.{ℕ, ◌+◌, ◌*◌, ◌≤◌}
 use native.Mathlib.Omega.{arith}
-use lib.Dec.{eqb}
 use lib.ListN.{length, length-append}
-use borrow.Author.Tests.{eq-eqb, ne_eqb}
 use Rattle.basis.specs.Choice.{pick, fork, among}
 use Rattle.basis.specs.Text.{ascii}
 use Rattle.basis.proofs.ChoiceLaws.{pick-case}
@@ -34,60 +32,39 @@ use Rattle.options.proofs.OptionsLaws.{code_of-length, meaning_of-length}
 use Rattle.kept.specs.Fillers.{spaced}
 use Rattle.kept.specs.Markers.{text, code_item, option_items, codes}
 use Rattle.kept.proofs.FillersLaws.{spaced-length}
+use Rattle.write_values.proofs.ElementLaws.{length-spaced}
 use Rattle.table.specs.Rules.{patient_identity_removed_tag, deidentification_codes_tag, longitudinal_time_tag}
 use Rattle.write_markers.specs.Gains.{due, gain, gaining, gained_if}
-use Rattle.write_markers.specs.Parts.{space_pad, item_bytes, items_bytes, head_of}
+use Rattle.write_markers.specs.Parts.{item_bytes, items_bytes}
 use Rattle.write_markers.proofs.WriteLaws.{put-field-on, put_elements-on, item-on}
 use Rattle.write_markers.proofs.StepLaws.{yes_due, codes_due, dates_due, gaining-parts}
 
--- ---- space_pad
-
-pub pad-none : (n : ℕ) → n % 2 ≡ 0 → space_pad n ≡ []
-unfolding space_pad
-pad-none n e = rw (eq-eqb (n % 2) 0 e)
-
-pub pad-one : (n : ℕ) → (n % 2 ≡ 0 → ⊥) → space_pad n ≡ 0x20 ∷ []
-unfolding space_pad
-pad-one n h = rw (ne_eqb (n % 2) 0 h)
-
-pub pad-short : (n : ℕ) → length (space_pad n) ≤ 1
-unfolding space_pad
-pad-short n = pick-case (λ l. length l ≤ 1) (eqb (n % 2) 0) [] (0x20 ∷ []) (λ _. omega arith) (λ _. omega arith)
-
-pub spaced-pad : (t : List ℕ) → spaced t ≡ t ++ space_pad (length t)
-unfolding spaced space_pad
-spaced-pad t = step (eqb (length t % 2) 0)
-  where
-    step : (b : Bool) → pick b t (t ++ 0x20 ∷ []) ≡ t ++ pick b [] (0x20 ∷ [])
-    step true = sym (append-nil t)
-    step false = refl
-
 -- ---- elements with a text
 
-pub cs-short : kind_of CS ≡ Short
+cs-short : kind_of CS ≡ Some Short
 unfolding kind_of among
 cs-short = refl
 
-pub sh-short : kind_of SH ≡ Short
+sh-short : kind_of SH ≡ Some Short
 unfolding kind_of among
 sh-short = refl
 
-pub lo-short : kind_of LO ≡ Short
+lo-short : kind_of LO ≡ Some Short
 unfolding kind_of among
 lo-short = refl
 
-sq-sequence : kind_of SQ ≡ Sequence
+sq-sequence : kind_of SQ ≡ Some Sequence
 unfolding kind_of
 sq-sequence = refl
 
 -- `RoundLaws` of the crate `layout` has these two for itself
-pub short-length : (tag vr n : ℕ) → kind_of vr ≡ Short → length (header tag vr n) ≡ 8
+short-length : (tag vr n : ℕ) → kind_of vr ≡ Some Short → length (header tag vr n) ≡ 8
 short-length tag vr n e = ap length (header-short tag vr n e)
 
 pub sequence-length : (tag n : ℕ) → length (header tag SQ n) ≡ 12
 sequence-length tag n = ap length (header-sequence tag SQ n sq-sequence)
 
-pub text-length : (tag vr : ℕ) (t : List ℕ) → kind_of vr ≡ Short → length (put_field {L = Unit {0}} tag vr (text t) []) ≡ 8 + length (spaced t)
+text-length : (tag vr : ℕ) (t : List ℕ) → kind_of vr ≡ Some Short → length (put_field {L = Unit {0}} tag vr (text t) []) ≡ 8 + length (spaced t)
 unfolding put_field
 text-length tag vr t e =
     length-append (header tag vr (length (spaced t))) (spaced t ++ [])
@@ -105,46 +82,44 @@ scheme_part = put_field {L = Unit {0}} 0x0008_0102 SH (text (ascii "DCM")) []
 abbrev pub meaning_part : List ℕ → List ℕ
 meaning_part meaning = put_field {L = Unit {0}} 0x0008_0104 LO (text meaning) []
 
-pub head_of-parts : (code : List ℕ) → head_of code ≡ mark item_tag undefined ++ (code_part code ++ scheme_part)
-unfolding head_of
-head_of-parts code = ap (λ (l : List ℕ). mark item_tag undefined ++ l) (put-field-on (text code) 0x0008_0100 SH scheme_part)
-
-pub item-parts : (code meaning : List ℕ) → item_bytes (code_item code meaning) ≡ head_of code ++ (meaning_part meaning ++ mark item_end 0)
+pub item-parts : (code meaning : List ℕ) → item_bytes (code_item code meaning)
+    ≡ mark item_tag undefined ++ (code_part code ++ (scheme_part ++ (meaning_part meaning ++ mark item_end 0)))
 unfolding item_bytes code_item put_elements
 item-parts code meaning =
-    let m : List ℕ = meaning_part meaning ++ mark item_end 0 in
-    let e : put_field {L = Unit {0}} 0x0008_0104 LO (text meaning) (closed []) ≡ m =
-    put-field-on (text meaning) 0x0008_0104 LO (closed []) ∙ ap (λ (l : List ℕ). meaning_part meaning ++ l) (append-nil (mark item_end 0)) in
-    let f : put_field {L = Unit {0}} 0x0008_0102 SH (text (ascii "DCM")) m ≡ scheme_part ++ m = put-field-on (text (ascii "DCM")) 0x0008_0102 SH m in
-    let g : put_field {L = Unit {0}} 0x0008_0100 SH (text code) (scheme_part ++ m) ≡ code_part code ++ (scheme_part ++ m) =
-    put-field-on (text code) 0x0008_0100 SH (scheme_part ++ m) in
-    let h : mark item_tag undefined ++ (code_part code ++ (scheme_part ++ m)) ≡ (mark item_tag undefined ++ (code_part code ++ scheme_part)) ++ m = simp append_assoc in
-    ap (λ (l : List ℕ). opened (put_field {L = Unit {0}} 0x0008_0100 SH (text code) (put_field {L = Unit {0}} 0x0008_0102 SH (text (ascii "DCM")) l))) e
-    ∙ ap (λ (l : List ℕ). opened (put_field {L = Unit {0}} 0x0008_0100 SH (text code) l)) f
-    ∙ ap (λ (l : List ℕ). opened l) g
-    ∙ h
-    ∙ ap (λ (l : List ℕ). l ++ m) (sym (head_of-parts code))
+    let end : List ℕ = closed [] in
+    let m : List ℕ = put_field {L = Unit {0}} 0x0008_0104 LO (text meaning) end in
+    let e : end ≡ mark item_end 0 = append-nil (mark item_end 0) in
+    ap (λ (l : List ℕ). mark item_tag undefined ++ l)
+    (put-field-on (text code) 0x0008_0100 SH (put_field {L = Unit {0}} 0x0008_0102 SH (text (ascii "DCM")) m)
+    ∙ ap (λ (l : List ℕ). code_part code ++ l)
+    (put-field-on (text (ascii "DCM")) 0x0008_0102 SH m
+    ∙ ap (λ (l : List ℕ). scheme_part ++ l) (put-field-on (text meaning) 0x0008_0104 LO end ∙ ap (λ (l : List ℕ). meaning_part meaning ++ l) e)))
 
 pub mark-length : (tag n : ℕ) → length (mark tag n) ≡ 8
 unfolding mark
 mark-length tag n = refl
 
-pub head_of-length : (code : List ℕ) → length code ≤ 6 → length (head_of code) ≤ 35
-head_of-length code h =
-    let a : length (code_part code) ≡ 8 + length (spaced code) = text-length 0x0008_0100 SH code sh-short in
-    let b : length scheme_part ≡ 8 + length (spaced (ascii "DCM")) = text-length 0x0008_0102 SH (ascii "DCM") sh-short in
-    rw (head_of-parts code, length-append (mark item_tag undefined) (code_part code ++ scheme_part), length-append (code_part code) scheme_part, a, b, mark-length item_tag undefined)
-    (omega (arith, spaced-length code, spaced-length (ascii "DCM")))
+pub code-length : (code : List ℕ) → length (code_part code) ≡ 8 + length (spaced code)
+code-length code = text-length 0x0008_0100 SH code sh-short
 
--- the place past a head
-pub head-place : (pos : ℕ) (given code : List ℕ) (p : ℕ) → given ≡ code → length code ≤ 6 → p ≡ pos + length (head_of given) → p ≤ pos + 35
-head-place pos given code p same h e = let l : length (head_of code) ≤ 35 = head_of-length code h in let m : p ≡ pos + length (head_of code) = rw same at e in omega arith
+pub scheme-length : length scheme_part ≡ 12
+scheme-length = omega (arith, text-length 0x0008_0102 SH (ascii "DCM") sh-short, length-spaced (ascii "DCM"))
 
-pub item-length : (code meaning : List ℕ) → length code ≤ 6 → length meaning ≤ 64 → length (item_bytes (code_item code meaning)) ≤ 116
+pub meaning-length : (meaning : List ℕ) → length (meaning_part meaning) ≡ 8 + length (spaced meaning)
+meaning-length meaning = text-length 0x0008_0104 LO meaning lo-short
+
+item-length : (code meaning : List ℕ) → length code ≤ 6 → length meaning ≤ 64 → length (item_bytes (code_item code meaning)) ≤ 116
 item-length code meaning h k =
-    let a : length (meaning_part meaning) ≡ 8 + length (spaced meaning) = text-length 0x0008_0104 LO meaning lo-short in
-    rw (item-parts code meaning, length-append (head_of code) (meaning_part meaning ++ mark item_end 0), length-append (meaning_part meaning) (mark item_end 0), a, mark-length item_end 0)
-    (omega (arith, head_of-length code h, spaced-length meaning))
+    rw (
+      item-parts code meaning,
+      length-append (mark item_tag undefined) (code_part code ++ (scheme_part ++ (meaning_part meaning ++ mark item_end 0))),
+      length-append (code_part code) (scheme_part ++ (meaning_part meaning ++ mark item_end 0)),
+      length-append scheme_part (meaning_part meaning ++ mark item_end 0),
+      length-append (meaning_part meaning) (mark item_end 0),
+      mark-length item_tag undefined,
+      mark-length item_end 0,
+    )
+    (omega (arith, code-length code, scheme-length, meaning-length meaning, spaced-length code, spaced-length meaning))
 
 -- ---- (0012,0064)
 
@@ -188,7 +163,7 @@ chosen-few picked (o ∷ os) = step (is_chosen picked o) (chosen-few picked os)
     step true h = omega arith
     step false h = omega arith
 
-pub option-length : (o : Opt) → length (item_bytes (code_item (code_of o) (meaning_of o))) ≤ 116
+option-length : (o : Opt) → length (item_bytes (code_item (code_of o) (meaning_of o))) ≤ 116
 option-length o = item-length (code_of o) (meaning_of o) (omega (arith, code_of-length o)) (meaning_of-length o).1
 
 pub basic-length : length basic_part ≤ 116
@@ -215,6 +190,9 @@ codes-length picked =
     )
     (omega (arith, basic-length, options-length picked))
 
+pub yes-length : length (put_field {L = Unit {0}} patient_identity_removed_tag CS (text (ascii "YES")) []) ≡ 12
+yes-length = omega (arith, text-length patient_identity_removed_tag CS (ascii "YES") cs-short, length-spaced (ascii "YES"))
+
 pub word-length : (picked : ℕ) → length (date_word picked) ≤ 10
 unfolding date_word
 word-length picked =
@@ -227,14 +205,14 @@ gain-length low high m vr n f h =
     pick-case (λ d. length (put_elements d []) ≤ n) (due low high m) (elem tt m vr f nil) nil (λ _. h) (λ _. omega arith)
 
 module _ (picked low high : ℕ) where
-  pub yes-due-length : length (yes_due picked low high) ≤ 12
+  yes-due-length : length (yes_due picked low high) ≤ 12
   yes-due-length =
-      gain-length low high patient_identity_removed_tag CS 12 (text (ascii "YES")) (omega (arith, text-length patient_identity_removed_tag CS (ascii "YES") cs-short, spaced-length (ascii "YES")))
+      gain-length low high patient_identity_removed_tag CS 12 (text (ascii "YES")) (omega (arith, yes-length))
 
-  pub codes-due-length : length (codes_due picked low high) ≤ 832
+  codes-due-length : length (codes_due picked low high) ≤ 832
   codes-due-length = gain-length low high deidentification_codes_tag SQ 832 (items (codes picked)) (codes-length picked)
 
-  pub dates-due-length : length (dates_due picked low high) ≤ 19
+  dates-due-length : length (dates_due picked low high) ≤ 19
   dates-due-length =
       gain-length low high longitudinal_time_tag CS 19 (text (date_word picked))
       (omega (arith, text-length longitudinal_time_tag CS (date_word picked) cs-short, spaced-length (date_word picked), word-length picked))

@@ -1,4 +1,4 @@
--- The steps of the walk in bytes, as the code that writes the level cites them; on a level below the top nothing is gained_if.
+-- The steps of the walk in bytes, as the code that writes the level cites them; on a level below the top nothing is gained.
 -- No contract cites this file. Assumes nothing.
 --     gain-bytes, gaining-parts, gaining-bytes     what is due is written in front, one after the other
 --     step-kept           an element that is written: what is due, the element, and what follows

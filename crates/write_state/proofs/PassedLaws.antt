@@ -2,7 +2,7 @@
 -- Assumes nothing.
 use mathlib.Core.Path.{◌≡◌, refl, sym, ap, ◌∙◌}
 use mathlib.Core.Bool.{Bool, true, false, false≢true}
-use mathlib.Core.Option.{some}
+use Rattle.std.specs.Prelude.{Some}
 use mathlib.Core.List.{List, [], ◌++◌, map, append_assoc, append-nil}
 use mathlib.Core.Logic.{◌≢◌}
 use Prim.Native.Nat.{ℕ, ◌+◌, ◌≤◌}
@@ -263,7 +263,7 @@ module _ (s : Settings) (level : Level) (tag vr : ℕ) (p : Place) (st : State) 
   one-dummied (value v) e = one-as (value v) Dummied e refl (dummied_as s tag vr) st.slots (rw e) refl
   one-dummied (items is) e = one-as (items is) Dummied e refl (dummied_as s tag vr) st.slots (rw e) refl
 
-  pub one_renamed : (v : List ℕ) (us : List Uid) → fate s level tag vr ≡ Renamed → uids_of v ≡ some us
+  pub one_renamed : (v : List ℕ) (us : List Uid) → fate s level tag vr ≡ Renamed → uids_of v ≡ Some us
       → passed_one s level (elem p tag vr (value v) nil) st
       ≡ state (st.bytes ++ element_bytes tag vr (value (uids_text s.root (numbers same_uid st.slots (map slot_of us)))))
       (learns same_uid st.slots (map slot_of us)) (plus st.tally (one Renamed))

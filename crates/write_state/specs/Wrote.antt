@@ -2,10 +2,10 @@
 -- of `write_element` and the inner ones of `write_walk` cite this file; what `write_walk` promises of a whole data set is its own `Whole`.
 -- Assumes nothing.
 --     met t                    the four counts of the progress t together
---     Lies c s                 the container c lies within the bytes s
 --     Ready root l t n more    the walk t may read n bytes more and write `more` beyond them: the root is not too long, the slots in use are
 --                              slots of the ledger l, and no place and no count comes too far
 --     Countable t n            n more elements can be counted
+--     Walk                     how a walk ended: no slot was free for a UID; or the place past what was walked, and how far the walk is
 --     Holds out₀ l₀ base out l t st   the output and the ledger, which were out₀ and l₀, and the progress t hold the state st, whose bytes begin at base
 --     Ends                     a walk that should end at a place with a state does so; or it stops, where the state has more slots than there are
 --     Within                   where a walk may end, how much it may write and count, and how many slots may be in use
@@ -18,8 +18,7 @@
 --     SequencePass, WalkedPass, ShutPass   a sequence; one that is walked into; one that is not
 --     PlainPass, ActPass       an element with a value; one that is not walked into
 --     Stands f vr s from to    what an element that is not walked into holds
-use Rattle.std.specs.Prelude.{◌≡◌, false, ◌≢◌, List, ℕ, ◌+◌, ◌-◌, ◌*◌, ◌≤◌, ◌<◌, length, take}
-use Rattle.std.proofs.Math.Option.{none}
+use Rattle.std.specs.Prelude.{◌≡◌, false, ◌≢◌, List, ℕ, ◌+◌, ◌-◌, ◌*◌, ◌≤◌, ◌<◌, length, take, Option, None, Some}
 use Rattle.basis.specs.Bytes.{part}
 use Rattle.buffer.specs.Buffer.{laid}
 use Rattle.vr.specs.Names.{SQ}
@@ -42,17 +41,11 @@ use Rattle.write_markers.specs.Gains.{gained}
 use Rattle.write_state.specs.Bounds.{per_byte, farthest}
 use Rattle.write_state.specs.Passed.{State, say, passed, passed_one, passed_items}
 use Rattle.write_state.specs.declared.Progress.{Progress}
-use Rattle.write_state.specs.declared.Walk.{Walk}
-use Rattle.write_state.specs.declared.Walk.TheVariants.{Stop, To}
 
 -- ---- what a function may ask
 
 abbrev pub met : Progress → ℕ
 met t = t.kept + t.replaced + t.renamed + t.removed
-
-pub record Lies (c : Container) (s : List ℕ) : Type 0 where
-  pub rises : c.from ≤ c.end
-  pub in_s : c.end ≤ length s
 
 pub record Ready (root l : List ℕ) (t : Progress) (n more : ℕ) : Type 0 where
   pub root_fits : length root ≤ longest_root
@@ -64,6 +57,9 @@ pub record Countable (t : Progress) (n : ℕ) : Type 0 where
 
 -- ---- what a function promises
 
+abbrev pub Walk : Type 0
+Walk = Option (ℕ × Progress)
+
 pub record Holds (out₀ l₀ : List ℕ) (base : ℕ) (out l : List ℕ) (t : Progress) (st : State) : Type 0 where
   pub pos_is : t.pos ≡ base + length st.bytes
   pub out_is : out ≡ laid out₀ base st.bytes
@@ -73,13 +69,13 @@ pub record Holds (out₀ l₀ : List ℕ) (base : ℕ) (out l : List ℕ) (t : P
   pub counts_are : counts t.kept t.replaced t.renamed t.removed ≡ st.tally
 
 abbrev pub Ends : List ℕ → List ℕ → ℕ → List ℕ → List ℕ → ℕ → State → Walk → Type 0
-Ends out₀ l₀ base out l next st Stop = slots_of l₀ < length st.slots
-Ends out₀ l₀ base out l next st (To past t) = (past ≡ next) × Holds out₀ l₀ base out l t st
+Ends out₀ l₀ base out l next st None = slots_of l₀ < length st.slots
+Ends out₀ l₀ base out l next st (Some (past, t)) = (past ≡ next) × Holds out₀ l₀ base out l t st
 
 -- at most one element is counted for a byte that was read
 abbrev pub Within : ℕ → ℕ → ℕ → ℕ → List ℕ → Progress → Walk → Type 0
-Within from end more one l t Stop = Unit {0}
-Within from end more one l t (To past u) =
+Within from end more one l t None = Unit {0}
+Within from end more one l t (Some (past, u)) =
     (from ≤ past) × (past ≤ end) × (u.pos ≤ t.pos + per_byte * (past - from) + more) × (met u ≤ met t + (past - from) + one)
     × (t.used ≤ u.used) × (u.used ≤ slots_of l)
 
@@ -110,14 +106,14 @@ pub record ReadItems (x : Source) (c : Container) (tree : Items Place) (past : �
 -- one element, wherever it stood
 pub record ElementPass (w : Settings) (level : Level) (tag vr : ℕ) (f : Field Place) (st st' : State) : Type 0 where
   pub place : Place
-  pub sound : field_fault f w level (fate w level tag vr) vr place.at ≡ none
+  pub sound : field_fault f w level (fate w level tag vr) vr place.at ≡ None
   pub ends : st' ≡ passed_one w level (elem place tag vr f nil) st
 
 -- the elements of a container, whose tags are at least low
 pub record ElementsPass (w : Settings) (x : Source) (c : Container) (level : Level) (low next : ℕ) (st st' : State) : Type 0 where
   pub tree : Elements Place
   pub read : ReadElements x c low tree next
-  pub sound : first_fault tree w level ≡ none
+  pub sound : first_fault tree w level ≡ None
   pub ends : st' ≡ passed w level low tree st
 
 -- the items of a sequence that is walked into; their elements are on this level, which is not the top one
@@ -125,14 +121,14 @@ pub record ItemsPass (w : Settings) (x : Source) (c : Container) (level : Level)
   pub inner : is_top level ≡ false
   pub tree : Items Place
   pub read : ReadItems x c tree next
-  pub sound : items_fault tree w level ≡ none
+  pub sound : items_fault tree w level ≡ None
   pub ends : st' ≡ passed_items w level tree st
 
 -- one item, with its marks; c is what is inside it
 pub record ItemPass (w : Settings) (x : Source) (c : Container) (level : Level) (next : ℕ) (st st' : State) : Type 0 where
   pub tree : Elements Place
   pub read : ReadElements x c 0 tree next
-  pub sound : first_fault tree w level ≡ none
+  pub sound : first_fault tree w level ≡ None
   pub ends : st' ≡ say (passed w level 0 tree (say st (mark item_tag undefined))) (mark item_end 0)
 
 -- a sequence, whatever is done with it

@@ -19,13 +19,6 @@ pub struct Progress {
     pub removed: usize,
 }
 
-// How a walk ended: no slot was free for a UID; or the place past what was walked, and how far the walk is.
-#[derive(Clone, Copy)]
-pub enum Walk {
-    Stop,
-    To(usize, Progress),
-}
-
 // Where an element stands: its level, and the least tag that may stand there.
 #[derive(Clone, Copy)]
 pub struct Standing {
@@ -42,76 +35,59 @@ pub struct Element {
     pub past: usize,
 }
 
-// The output's next place is `pos`.
-pub fn at_place(t: Progress, pos: usize) -> Progress
-    ensures { result ≡ at_place t pos }
-{
-    Progress {
-        pos: pos,
-        used: t.used,
-        kept: t.kept,
-        replaced: t.replaced,
-        renamed: t.renamed,
-        removed: t.removed,
+impl Progress {
+    // The output's next place is `pos`.
+    pub fn at_place(self, pos: usize) -> Progress
+        ensures { result ≡ at_place self pos }
+    {
+        Progress { pos, ..self }
     }
-}
 
-// And one element more was kept.
-pub fn one_kept(t: Progress, pos: usize) -> Progress
-    requires { Countable t 1 }
-    ensures { result ≡ one_kept t pos }
-{
-    Progress {
-        pos: pos,
-        used: t.used,
-        kept: t.kept + 1,
-        replaced: t.replaced,
-        renamed: t.renamed,
-        removed: t.removed,
+    // And one element more was kept.
+    pub fn one_kept(self, pos: usize) -> Progress
+        requires { Countable self 1 }
+        ensures { result ≡ one_kept self pos }
+    {
+        Progress {
+            pos,
+            kept: self.kept + 1,
+            ..self
+        }
     }
-}
 
-// And one element more was replaced.
-pub fn one_replaced(t: Progress, pos: usize) -> Progress
-    requires { Countable t 1 }
-    ensures { result ≡ one_replaced t pos }
-{
-    Progress {
-        pos: pos,
-        used: t.used,
-        kept: t.kept,
-        replaced: t.replaced + 1,
-        renamed: t.renamed,
-        removed: t.removed,
+    // And one element more was replaced.
+    pub fn one_replaced(self, pos: usize) -> Progress
+        requires { Countable self 1 }
+        ensures { result ≡ one_replaced self pos }
+    {
+        Progress {
+            pos,
+            replaced: self.replaced + 1,
+            ..self
+        }
     }
-}
 
-// And one element more was renamed; `used` slots are in use.
-pub fn one_renamed(t: Progress, pos: usize, used: usize) -> Progress
-    requires { Countable t 1 }
-    ensures { result ≡ one_renamed t pos used }
-{
-    Progress {
-        pos: pos,
-        used: used,
-        kept: t.kept,
-        replaced: t.replaced,
-        renamed: t.renamed + 1,
-        removed: t.removed,
+    // And one element more was renamed; `used` slots are in use.
+    pub fn one_renamed(self, pos: usize, used: usize) -> Progress
+        requires { Countable self 1 }
+        ensures { result ≡ one_renamed self pos used }
+    {
+        Progress {
+            pos,
+            used,
+            renamed: self.renamed + 1,
+            ..self
+        }
     }
-}
 
-// One element more was removed.
-pub fn one_removed(t: Progress) -> Progress
-    requires { Countable t 1 }
-    ensures { result ≡ one_removed t }
-{
-    Progress {
-        pos: t.pos,
-        used: t.used,
-        kept: t.kept,
-        replaced: t.replaced,
-        renamed: t.renamed,
-        removed: t.removed + 1,
+    // One element more was removed.
+    pub fn one_removed(self) -> Progress
+        requires { Countable self 1 }
+        ensures { result ≡ one_removed self }
+    {
+        Progress {
+            removed: self.removed + 1,
+            ..self
+        }
     }
 }

@@ -2,70 +2,55 @@
 // place counts on past the buffer's end.
 #![tactic(auto)]
 
-ghost use Rattle.std.specs.Prelude.{◌≡◌, ◌+◌, ◌-◌, ◌≤◌, ◌<◌, ◌^◌, eqb, length};
-ghost use Rattle.basis.specs.Bytes.{part};
-ghost use Rattle.buffer.specs.Buffer.{laid};
-ghost use Rattle.vr.specs.Names.{DA};
+ghost use Rattle.std.specs.Prelude.{◌≡◌, ◌+◌, ◌<◌, ◌^◌, eqb, length};
+ghost use Rattle.buffer.specs.Buffer.{laid, Puts};
+ghost use Rattle.vr.specs.Names.{DA, SQ};
 ghost use Rattle.vr.specs.Vr.{dummy_of};
-ghost use Rattle.layout.specs.Tree.{value};
+ghost use Rattle.layout.specs.Tree.{value, items, nil, none as no_item, item};
 ghost use Rattle.calendar.specs.Values.{shifted_text};
-ghost use Rattle.kept.specs.Fillers.{spaced, emptied_as, dummied_as};
+ghost use Rattle.kept.specs.Fillers.{spaced, listed, or, emptied_as, dummied_as};
 ghost use Rattle.write_values.specs.Element.{element_bytes, with_lists};
 
 const SPACE: u8 = b' ';
 
 // An element with the value that came in (K).
-pub fn put_same(
-    tag: u64,
-    vr: u64,
-    s: &[u8],
-    from: usize,
-    to: usize,
-    out: &mut [u8],
-    pos: usize,
-) -> usize
-    requires { (from ≤ to) × (to ≤ length s.now) × (pos + (to - from) + 12 < 2 ^ 64) }
-    ensures { (result ≡ pos + length (element_bytes tag vr (value (part s.now from to)))) × (out.new ≡ laid out.old pos (element_bytes tag vr (value (part s.now from to)))) }
+#[tactic(auto, using(crate::proofs::ElementLaws::value_laws))]
+pub fn put_same(tag: u64, vr: u64, bytes: &[u8], out: &mut [u8], pos: usize) -> usize
+    requires { pos + length bytes.now + 12 < 2 ^ 64 }
+    ensures { Puts (element_bytes tag vr (value bytes.now)) out.old pos out.new result }
 {
-    let body = write_headers::put_header(tag, vr, to - from, out, pos);
-    buffer::copy_block(s, from, to, out, body)
+    let body = write_headers::put_header(tag, vr, bytes.len(), out, pos);
+    buffer::copy_block(bytes, out, body)
 }
 
 // A DA or DT element with its dates moved. A date that can't be moved stays: a value that has one is refused before anything is written.
-pub fn put_dates(
-    tag: u64,
-    vr: u64,
-    s: &[u8],
-    from: usize,
-    to: usize,
-    days: i32,
-    out: &mut [u8],
-    pos: usize,
-) -> usize
-    requires { (from ≤ to) × (to ≤ length s.now) × (pos + (to - from) + 12 < 2 ^ 64) }
-    ensures { (result ≡ pos + length (element_bytes tag vr (value (shifted_text (eqb vr DA) days (part s.now from to))))) × (out.new ≡ laid out.old pos (element_bytes tag vr (value (shifted_text (eqb vr DA) days (part s.now from to))))) }
+#[tactic(auto, using(crate::proofs::ElementLaws::dates_laws))]
+pub fn put_dates(tag: u64, vr: u64, bytes: &[u8], days: i32, out: &mut [u8], pos: usize) -> usize
+    requires { pos + length bytes.now + 12 < 2 ^ 64 }
+    ensures { Puts (element_bytes tag vr (value (shifted_text (eqb vr DA) days bytes.now))) out.old pos out.new result }
 {
-    let dates = write_headers::put_header(tag, vr, to - from, out, pos);
-    calendar::put_shifted(vr == vr::DA, s, from, to, days, out, dates)
+    let dates = write_headers::put_header(tag, vr, bytes.len(), out, pos);
+    calendar::put_shifted(vr == vr::DA, bytes, days, out, dates)
 }
 
-// An element with the text `t` as its value, and a space behind it where the length would be odd.
-pub fn put_text(tag: u64, vr: u64, t: &[u8], out: &mut [u8], pos: usize) -> usize
-    requires { pos + length t.now + 13 < 2 ^ 64 }
-    ensures { (result ≡ pos + length (element_bytes tag vr (value (spaced t.now)))) × (out.new ≡ laid out.old pos (element_bytes tag vr (value (spaced t.now)))) }
+// An element with a text as its value, and a space behind it where the length would be odd.
+#[tactic(auto, using(crate::proofs::ElementLaws::text_laws))]
+pub fn put_text(tag: u64, vr: u64, text: &[u8], out: &mut [u8], pos: usize) -> usize
+    requires { pos + length text.now + 13 < 2 ^ 64 }
+    ensures { Puts (element_bytes tag vr (value (spaced text.now))) out.old pos out.new result }
 {
-    let len = t.len();
-    if len % 2 == 0 {
-        let text = write_headers::put_header(tag, vr, len, out, pos);
-        return buffer::copy_block(t, 0, len, out, text);
+    let even = text.len() + text.len() % 2;
+    let body = write_headers::put_header(tag, vr, even, out, pos);
+    let end = buffer::copy_block(text, out, body);
+    if text.len() < even {
+        buffer::put(out, end, SPACE);
     }
-    let text = write_headers::put_header(tag, vr, len + 1, out, pos);
-    let e = buffer::copy_block(t, 0, len, out, text);
-    buffer::put(out, e, SPACE);
-    e + 1
+    body + even
 }
 
-// An emptied element (Z): with a list's value where there is one, else without any.
+// An emptied element (Z): with a list's value where there is one, else without any. The two lists come by themselves, not in a
+// `SettingTexts`: no other setting is of use here, and the contract says so (`with_lists`).
+#[tactic(auto, using(crate::proofs::FillerLaws::emptied_laws))]
 pub fn put_emptied<'a>(
     study: &'a [u8],
     site: &'a [u8],
@@ -75,7 +60,7 @@ pub fn put_emptied<'a>(
     pos: usize,
 ) -> usize
     requires { pos + 80 < 2 ^ 64 }
-    ensures { (result ≡ pos + length (element_bytes tag vr (emptied_as (with_lists study.now site.now) tag vr))) × (out.new ≡ laid out.old pos (element_bytes tag vr (emptied_as (with_lists study.now site.now) tag vr))) }
+    ensures { Puts (element_bytes tag vr (emptied_as (with_lists study.now site.now) tag vr)) out.old pos out.new result }
 {
     if vr::served_by_lists(vr) {
         let listed = lists::lookup(study, site, tag);
@@ -84,18 +69,34 @@ pub fn put_emptied<'a>(
     write_headers::put_header(tag, vr, 0, out, pos)
 }
 
-// An element with its VR's dummy.
-fn put_dummy(tag: u64, vr: u64, out: &mut [u8], pos: usize) -> usize
-    requires { pos + 80 < 2 ^ 64 }
-    ensures { (result ≡ pos + length (element_bytes tag vr (value (spaced (dummy_of vr))))) × (out.new ≡ laid out.old pos (element_bytes tag vr (value (spaced (dummy_of vr))))) }
+// What D writes of a VR other than SQ, before padding: a list's value where there is one, else the dummy.
+#[tactic(auto, using(crate::proofs::FillerLaws::found_laws), unfolding(kept::specs::Fillers::listed))]
+fn dummied_value<'a>(study: &'a [u8], site: &'a [u8], tag: u64, vr: u64) -> &'a [u8]
+    ensures { result.now ≡ or (listed (with_lists study.now site.now) tag vr) (dummy_of vr) }
 {
-    let d = vr::dummy_of(vr);
-    let bytes = d.bytes;
-    let n = d.len;
-    put_text(tag, vr, &bytes[0..n], out, pos)
+    if vr::served_by_lists(vr) {
+        let found = lists::lookup(study, site, tag);
+        if !found.is_empty() {
+            return found;
+        }
+    }
+    vr::dummy_of(vr)
+}
+
+// A sequence with one empty item.
+#[tactic(auto, using(crate::proofs::ElementLaws::value_laws))]
+fn put_blank_sequence(tag: u64, out: &mut [u8], pos: usize) -> usize
+    requires { pos + 80 < 2 ^ 64 }
+    ensures { Puts (element_bytes tag SQ (items (item nil no_item))) out.old pos out.new result }
+{
+    let items = write_headers::put_header(tag, vr::SQ, layout::UNDEFINED, out, pos);
+    let inside = write_headers::put_mark(layout::ITEM, layout::UNDEFINED, out, items);
+    let after = write_headers::put_mark(layout::ITEM_END, 0, out, inside);
+    write_headers::put_mark(layout::SEQUENCE_END, 0, out, after)
 }
 
 // A dummied element (D): a sequence with one empty item; another with a list's value where there is one, else with the dummy.
+#[tactic(auto, using(crate::proofs::FillerLaws::dummied_laws))]
 pub fn put_dummied<'a>(
     study: &'a [u8],
     site: &'a [u8],
@@ -105,20 +106,10 @@ pub fn put_dummied<'a>(
     pos: usize,
 ) -> usize
     requires { pos + 80 < 2 ^ 64 }
-    ensures { (result ≡ pos + length (element_bytes tag vr (dummied_as (with_lists study.now site.now) tag vr))) × (out.new ≡ laid out.old pos (element_bytes tag vr (dummied_as (with_lists study.now site.now) tag vr))) }
+    ensures { Puts (element_bytes tag vr (dummied_as (with_lists study.now site.now) tag vr)) out.old pos out.new result }
 {
     if vr == vr::SQ {
-        let items = write_headers::put_header(tag, vr, layout::UNDEFINED, out, pos);
-        let inside = write_headers::put_mark(layout::ITEM, layout::UNDEFINED, out, items);
-        let after = write_headers::put_mark(layout::ITEM_END, 0, out, inside);
-        return write_headers::put_mark(layout::SEQUENCE_END, 0, out, after);
+        return put_blank_sequence(tag, out, pos);
     }
-    if vr::served_by_lists(vr) {
-        let found = lists::lookup(study, site, tag);
-        if found.len() == 0 {
-            return put_dummy(tag, vr, out, pos);
-        }
-        return put_text(tag, vr, found, out, pos);
-    }
-    put_dummy(tag, vr, out, pos)
+    put_text(tag, vr, dummied_value(study, site, tag, vr), out, pos)
 }

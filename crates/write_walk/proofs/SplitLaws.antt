@@ -8,7 +8,8 @@
 use mathlib.Core.Path.{◌≡◌, refl, sym, ap, ◌∙◌}
 use mathlib.Core.Bool.{Bool}
 use mathlib.Core.List.{List}
-use mathlib.Core.Option.{none}
+use Rattle.refusals.specs.declared.Refusal.{Refusal}
+use Rattle.std.specs.Prelude.{None, Some, Result, Ok, Err}
 use Prim.Native.Nat.{ℕ, zero, suc, ◌+◌, ◌-◌, ◌≤◌, ◌<◌}
 use native.Mathlib.Omega.{arith}
 use lib.ListN.{length}
@@ -24,9 +25,9 @@ use Rattle.layout.specs.Write.{mark}
 use Rattle.layout.specs.Walks.{Inside, Within, container, deeper}
 use Rattle.layout.specs.declared.Container.{Container}
 use Rattle.layout.specs.declared.Head.{Head}
-use Rattle.layout.specs.declared.Head.TheVariants.{Bad, End, Plain, Seq}
+use Rattle.layout.specs.declared.Head.TheVariants.{End, Plain, Seq}
 use Rattle.layout.specs.declared.Spot.{Spot}
-use Rattle.layout.specs.declared.Spot.TheVariants.{Wrong, Over, Item}
+use Rattle.layout.specs.declared.Spot.TheVariants.{Over, Item}
 use Rattle.layout.proofs.ReadLaws.{was-bad, was-end, was-plain, was-seq, was-wrong, was-over, was-item}
 use Rattle.ledger.specs.Slots.{slots_of}
 use Rattle.treatment.specs.Settings.{Settings}
@@ -40,7 +41,6 @@ use Rattle.write_state.specs.Passed.{State, say, passed, passed_one, passed_item
 use Rattle.write_state.specs.Steps.{at_place}
 use Rattle.write_state.specs.Wrote.{Holds, Wrote, ElementsPass, PlainPass, SequencePass, ItemsPass, ItemPass, Gaining}
 use Rattle.write_state.specs.declared.Progress.{Progress}
-use Rattle.write_state.specs.declared.Walk.TheVariants.{Stop, To}
 use Rattle.write_state.proofs.PassedLaws.{passed-nil, passed-elem, passed-grows, items-none, items-item, items-grow}
 use Rattle.write_state.proofs.HoldsLaws.{holds-say}
 use Rattle.write_walk.proofs.RisesLaws.{Fits, head-fits, read-rises}
@@ -51,32 +51,32 @@ onward c at = container at c.end c.unstated c.depth
 
 -- ---- faults in values
 
-fault-elem : (w : Settings) (level : Level) (p : Place) (tag vr : ℕ) (f : Field Place) (es : Elements Place) → first_fault (elem p tag vr f es) w level ≡ none
-    → (field_fault f w level (fate w level tag vr) vr p.at ≡ none) × (first_fault es w level ≡ none)
+fault-elem : (w : Settings) (level : Level) (p : Place) (tag vr : ℕ) (f : Field Place) (es : Elements Place) → first_fault (elem p tag vr f es) w level ≡ None
+    → (field_fault f w level (fate w level tag vr) vr p.at ≡ None) × (first_fault es w level ≡ None)
 unfolding first_fault
 fault-elem w level p tag vr f es e = first-none _ _ e
 
-fault-item : (w : Settings) (level : Level) (es : Elements Place) (is : Items Place) → items_fault (item es is) w level ≡ none
-    → (first_fault es w level ≡ none) × (items_fault is w level ≡ none)
+fault-item : (w : Settings) (level : Level) (es : Elements Place) (is : Items Place) → items_fault (item es is) w level ≡ None
+    → (first_fault es w level ≡ None) × (items_fault is w level ≡ None)
 unfolding items_fault
 fault-item w level es is e = first-none _ _ e
 
 -- ---- elements
 
 module _ {w : Settings} {x : Source} (c : Container) {level : Level} {at low : ℕ}
-    {h : Head} (is : h ≡ element_head x at c.end c.unstated low) (inside : Inside at c.end h) where
-  pub split-plain : (tag vr body past : ℕ) → h ≡ Plain tag vr body past
+    {h : Result Head Refusal} (is : h ≡ element_head x at c.end c.unstated low) (inside : Inside at c.end h) where
+  pub split-plain : (tag vr body past : ℕ) → h ≡ Ok (Plain tag vr body past)
       → Splits (ElementsPass w x (onward c at) level low) (Gaining w level low tag (PlainPass w level tag vr x.bytes body past))
       (λ n. ElementsPass w x (onward c n) level (tag + 1)) body
   split-plain tag vr body past e next st st' y = go y.read.fuel y.read.enough y.read.reads
     where
-      here : Plain tag vr body past ≡ element_head x at c.end c.unstated low
+      here : Ok (Plain tag vr body past) ≡ element_head x at c.end c.unstated low
       here = sym e ∙ is
 
-      fit : Fits low (Plain tag vr body past)
+      fit : Fits low (Ok (Plain tag vr body past))
       fit = rw (sym here) at (head-fits x at c.end c.unstated low)
 
-      lies : Inside at c.end (Plain tag vr body past)
+      lies : Inside at c.end (Ok (Plain tag vr body past))
       lies = rw e at inside
 
       mid : State
@@ -100,18 +100,18 @@ module _ {w : Settings} {x : Source} (c : Container) {level : Level} {at low : �
             rw ends (passed-grows w level (tag + 1) q.0 mid),
           )
 
-  pub split-seq : (tag body stop : ℕ) (m : Bool) → h ≡ Seq tag body stop m
+  pub split-seq : (tag body stop : ℕ) (m : Bool) → h ≡ Ok (Seq tag body stop m)
       → Splits (ElementsPass w x (onward c at) level low) (Gaining w level low tag (SequencePass w x (container body stop m c.depth) level tag))
       (λ n. ElementsPass w x (onward c n) level (tag + 1)) body
   split-seq tag body stop m e next st st' y = go y.read.fuel y.read.enough y.read.reads
     where
-      here : Seq tag body stop m ≡ element_head x at c.end c.unstated low
+      here : Ok (Seq tag body stop m) ≡ element_head x at c.end c.unstated low
       here = sym e ∙ is
 
-      fit : Fits low (Seq tag body stop m)
+      fit : Fits low (Ok (Seq tag body stop m))
       fit = rw (sym here) at (head-fits x at c.end c.unstated low)
 
-      lies : Inside at c.end (Seq tag body stop m)
+      lies : Inside at c.end (Ok (Seq tag body stop m))
       lies = rw e at inside
 
       go : (k : ℕ) → c.end - at < k → elements_at k x at c.end c.unstated c.depth low ≡ good y.tree next
@@ -134,8 +134,8 @@ module _ {w : Settings} {x : Source} (c : Container) {level : Level} {at low : �
             rw ends (passed-grows w level (tag + 1) q.2 mid),
           )
 
-  pub wrote-bad : (n : ℕ) → h ≡ Bad n → {more one : ℕ} {o l : List ℕ} {t : Progress}
-      → Wrote (ElementsPass w x (onward c at) level low) at c.end more one o o l l t Stop
+  pub wrote-bad : (r : Refusal) → h ≡ Err r → {more one : ℕ} {o l : List ℕ} {t : Progress}
+      → Wrote (ElementsPass w x (onward c at) level low) at c.end more one o o l l t None
   wrote-bad n e = record {
     out_size = refl;
     ledger_size = refl;
@@ -149,9 +149,9 @@ module _ {w : Settings} {x : Source} (c : Container) {level : Level} {at low : �
       go next st st' y zero lt f = absurd (omega arith)
       go next st st' y (suc j) lt f = absurd (was-bad x at c.end c.unstated c.depth low j y.tree next f n (sym e ∙ is))
 
-  pub wrote-end : (past : ℕ) → h ≡ End past → {o o₁ l : List ℕ} {t u : Progress} → u ≡ at_place t (t.pos + length (gained level w.options low 4294967296))
+  pub wrote-end : (past : ℕ) → h ≡ Ok (End past) → {o o₁ l : List ℕ} {t u : Progress} → u ≡ at_place t (t.pos + length (gained level w.options low 4294967296))
       → o₁ ≡ laid o t.pos (gained level w.options low 4294967296) → length (gained level w.options low 4294967296) ≤ all_markers → t.used ≤ slots_of l
-      → Wrote (ElementsPass w x (onward c at) level low) at c.end all_markers 0 o o₁ l l t (To past u)
+      → Wrote (ElementsPass w x (onward c at) level low) at c.end all_markers 0 o o₁ l l t (Some (past, u))
   wrote-end past e {o} {o₁} {l} {t} {u} eu eo short fits = rw eu (record {
     out_size = ap length eo ∙ length-laid o t.pos _;
     ledger_size = refl;
@@ -160,7 +160,7 @@ module _ {w : Settings} {x : Source} (c : Container) {level : Level} {at low : �
     right = λ next st st' y out₀ l₀ base g. go next st st' y y.read.fuel y.read.enough y.read.reads out₀ l₀ base g;
   })
     where
-      lies : Inside at c.end (End past)
+      lies : Inside at c.end (Ok (End past))
       lies = rw e at inside
 
       go : (next : ℕ) (st st' : State) (y : ElementsPass w x (onward c at) level low next st st') (k : ℕ)
@@ -176,16 +176,16 @@ module _ {w : Settings} {x : Source} (c : Container) {level : Level} {at low : �
 -- ---- items
 
 module _ {w : Settings} {x : Source} (c : Container) {level : Level} {at : ℕ}
-    {h : Spot} (is : h ≡ item_head x.bytes at c.end c.unstated c.depth) (within : Within at c.end c.depth h) where
-  pub split-item : (body stop : ℕ) (m : Bool) → h ≡ Item body stop m
+    {h : Result Spot Refusal} (is : h ≡ item_head x.bytes at c.end c.unstated c.depth) (within : Within at c.end c.depth h) where
+  pub split-item : (body stop : ℕ) (m : Bool) → h ≡ Ok (Item body stop m)
       → Splits (ItemsPass w x (onward c at) level) (ItemPass w x (deeper (container body stop m c.depth)) level)
       (λ n. ItemsPass w x (onward c n) level) body
   split-item body stop m e next st st' y = go y.read.fuel y.read.enough y.read.reads
     where
-      here : Item body stop m ≡ item_head x.bytes at c.end c.unstated c.depth
+      here : Ok (Item body stop m) ≡ item_head x.bytes at c.end c.unstated c.depth
       here = sym e ∙ is
 
-      lies : Within at c.end c.depth (Item body stop m)
+      lies : Within at c.end c.depth (Ok (Item body stop m))
       lies = rw e at within
 
       go : (k : ℕ) → c.end - at < k → items_at k x at c.end c.unstated c.depth ≡ good y.tree next
@@ -206,8 +206,8 @@ module _ {w : Settings} {x : Source} (c : Container) {level : Level} {at : ℕ}
             rw ends (items-grow w level q.2 mid),
           )
 
-  pub wrote-wrong : (n : ℕ) → h ≡ Wrong n → {more one : ℕ} {o l : List ℕ} {t : Progress}
-      → Wrote (ItemsPass w x (onward c at) level) at c.end more one o o l l t Stop
+  pub wrote-wrong : (r : Refusal) → h ≡ Err r → {more one : ℕ} {o l : List ℕ} {t : Progress}
+      → Wrote (ItemsPass w x (onward c at) level) at c.end more one o o l l t None
   wrote-wrong n e = record {
     out_size = refl;
     ledger_size = refl;
@@ -221,9 +221,9 @@ module _ {w : Settings} {x : Source} (c : Container) {level : Level} {at : ℕ}
       go next st st' y zero lt f = absurd (omega arith)
       go next st st' y (suc j) lt f = absurd (was-wrong x at c.end c.unstated c.depth j y.tree next f n (sym e ∙ is))
 
-  pub wrote-over : (past : ℕ) → h ≡ Over past → {o o₁ l : List ℕ} {t u : Progress} {p : ℕ} → u ≡ at_place t p → p ≡ t.pos + 8
+  pub wrote-over : (past : ℕ) → h ≡ Ok (Over past) → {o o₁ l : List ℕ} {t u : Progress} {p : ℕ} → u ≡ at_place t p → p ≡ t.pos + 8
       → o₁ ≡ laid o t.pos (mark sequence_end 0) → t.used ≤ slots_of l
-      → Wrote (ItemsPass w x (onward c at) level) at c.end one_mark 0 o o₁ l l t (To past u)
+      → Wrote (ItemsPass w x (onward c at) level) at c.end one_mark 0 o o₁ l l t (Some (past, u))
   unfolding mark
   wrote-over past e {o} {o₁} {l} {t} {u} {p} eu ep eo fits = rw eu (record {
     out_size = ap length eo ∙ length-laid o t.pos _;
@@ -233,7 +233,7 @@ module _ {w : Settings} {x : Source} (c : Container) {level : Level} {at : ℕ}
     right = λ next st st' y out₀ l₀ base g. go next st st' y y.read.fuel y.read.enough y.read.reads out₀ l₀ base g;
   })
     where
-      lies : Within at c.end c.depth (Over past)
+      lies : Within at c.end c.depth (Ok (Over past))
       lies = rw e at within
 
       go : (next : ℕ) (st st' : State) (y : ItemsPass w x (onward c at) level next st st') (k : ℕ)

@@ -5,6 +5,9 @@
 --     sequence-walked, sequence-shut     a sequence that is walked into, or shut
 --     walked-wrong, walked-over, walked-item     a sequence that is walked into: no items, by a fault or by its end, or some
 --     item-stop, item-done  an item's elements, between its marks
+use Rattle.refusals.specs.declared.Fault.{Fault}
+use Rattle.refusals.specs.declared.Refusal.{Refusal}
+use Rattle.std.specs.Prelude.{None, Some, Result, Ok, Err}
 use mathlib.Core.Path.{◌≡◌, refl, sym, ap, ◌∙◌}
 use mathlib.Core.Bool.{Bool, true, false}
 use mathlib.Core.List.{List}
@@ -23,9 +26,7 @@ use Rattle.layout.specs.Write.{header, mark}
 use Rattle.layout.specs.Walks.{Within as Spotted, Stays, WalkedItems}
 use Rattle.layout.specs.declared.Container.{Container}
 use Rattle.layout.specs.declared.Spot.{Spot}
-use Rattle.layout.specs.declared.Spot.TheVariants.{Wrong, Over, Item}
-use Rattle.layout.specs.declared.Shape.{Shape}
-use Rattle.layout.specs.declared.Shape.TheVariants.{Fine, Fault}
+use Rattle.layout.specs.declared.Spot.TheVariants.{Over, Item}
 use Rattle.layout.proofs.ReadLaws.{was-wrong, was-over, was-item}
 use Rattle.ledger.specs.Slots.{slots_of}
 use Rattle.treatment.specs.Settings.{Settings}
@@ -41,10 +42,8 @@ use Rattle.write_values.proofs.ElementLaws.{length-header}
 use Rattle.write_state.specs.Bounds.{one_element, marked_element, one_mark, one_item}
 use Rattle.write_state.specs.Passed.{State, say, count, passed, passed_one, passed_items}
 use Rattle.write_state.specs.Steps.{at_place, one_kept}
-use Rattle.write_state.specs.Wrote.{met, Ends, Within, Pass, Wrote, ReadItems, ElementsPass, PlainPass, ActPass, SequencePass, WalkedPass, ShutPass, ItemsPass, ItemPass, Gaining}
+use Rattle.write_state.specs.Wrote.{met, Ends, Within, Pass, Wrote, ReadItems, ElementsPass, PlainPass, ActPass, SequencePass, WalkedPass, ShutPass, ItemsPass, ItemPass, Gaining, Walk}
 use Rattle.write_state.specs.declared.Progress.{Progress}
-use Rattle.write_state.specs.declared.Walk.{Walk}
-use Rattle.write_state.specs.declared.Walk.TheVariants.{Stop, To}
 use Rattle.write_state.proofs.LevelLaws.{walks-is, not-walked, below-inner}
 use Rattle.write_state.proofs.PassedLaws.{counts-is}
 use Rattle.write_state.proofs.WalkedLaws.{one-shut, one-open}
@@ -87,22 +86,22 @@ plain-act {w} {level} low {tag} {vr} {s} {from} {to} f g short e x = gained-firs
 
 -- ---- a sequence that is passed over
 
-past-is : {x : Source} {c : Container} {q : Shape} {next : ℕ} {tree : Items Place} → WalkedItems x c q → ReadItems x c tree next → q ≡ Fine next
+past-is : {x : Source} {c : Container} {q : Result ℕ Fault} {next : ℕ} {tree : Items Place} → WalkedItems x c q → ReadItems x c tree next → q ≡ Ok next
 past-is passed_over r = passed_over.shape r.fuel r.enough ∙ ap shape_of r.reads
 
-module _ {w : Settings} {x : Source} {c : Container} {φ : Fate} {tag : ℕ} {q : Shape} (passed_over : WalkedItems x c q) where
-  pub shut-fault : (n p : ℕ) → q ≡ Fault n p → {o l : List ℕ} {t : Progress} → Wrote (ShutPass w x c φ tag) c.from c.end one_element 1 o o l l t Stop
-  shut-fault n p e = record {
+module _ {w : Settings} {x : Source} {c : Container} {φ : Fate} {tag : ℕ} {q : Result ℕ Fault} (passed_over : WalkedItems x c q) where
+  pub shut-fault : (f : Fault) → q ≡ Err f → {o l : List ℕ} {t : Progress} → Wrote (ShutPass w x c φ tag) c.from c.end one_element 1 o o l l t None
+  shut-fault f e = record {
     out_size = refl;
     ledger_size = refl;
     slots_kept = refl;
     bounds = tt;
     right = λ next st st' y out₀ l₀ base h.
-        let d : Fault n p ≡ Fine next = sym e ∙ past-is passed_over y.sequence.read in
+        let d : Err f ≡ Ok next = sym e ∙ past-is passed_over y.sequence.read in
         absurd (let z : ◌≡◌ {A = ℕ} 0 1 = cc in omega arith);
   }
 
-  pub shut-act : (past : ℕ) → q ≡ Fine past → {o o₁ l l₁ : List ℕ} {t : Progress} {r : Walk}
+  pub shut-act : (past : ℕ) → q ≡ Ok past → {o o₁ l l₁ : List ℕ} {t : Progress} {r : Walk}
       → Wrote (ActPass w φ tag SQ x.bytes c.from past) c.from past one_element 1 o o₁ l l₁ t r
       → Wrote (ShutPass w x c φ tag) c.from c.end one_element 1 o o₁ l l₁ t r
   shut-act past e {o} {o₁} {l} {l₁} {t} {r} y = record {
@@ -113,12 +112,12 @@ module _ {w : Settings} {x : Source} {c : Container} {φ : Fate} {tag : ℕ} {q 
     right = λ next st st' z out₀ l₀ base h. y.right next st st' (conv next st st' z) out₀ l₀ base h;
   }
     where
-      stays : Stays c.from c.end (Fine past)
+      stays : Stays c.from c.end (Ok past)
       stays = rw e at passed_over.stays
 
       wider : (r : Walk) → Within c.from past one_element 1 l t r → Within c.from c.end one_element 1 l t r
-      wider Stop b = tt
-      wider (To n u) b = omega (arith, stays)
+      wider None b = tt
+      wider (Some (n, u)) b = omega (arith, stays)
 
       conv : (next : ℕ) (st st' : State) → ShutPass w x c φ tag next st st' → ActPass w φ tag SQ x.bytes c.from past next st st'
       conv next st st' z = record {
@@ -127,7 +126,7 @@ module _ {w : Settings} {x : Source} {c : Container} {φ : Fate} {tag : ℕ} {q 
         fate_is = z.fate_is;
         is_shut = z.is_shut;
         stands = refl;
-        next_is = let d : Fine past ≡ Fine next = sym e ∙ past-is passed_over z.sequence.read in cc;
+        next_is = let d : Ok past ≡ Ok next = sym e ∙ past-is passed_over z.sequence.read in cc;
         one = z.sequence.one;
       }
 
@@ -149,8 +148,8 @@ module _ {w : Settings} {x : Source} {c : Container} {level : Level} (low : ℕ)
 -- ---- a sequence that is walked into
 
 module _ {w : Settings} {x : Source} {c : Container} {level : Level} {tag : ℕ}
-    {h : Spot} (is : h ≡ item_head x.bytes c.from c.end c.unstated c.depth) (within : Spotted c.from c.end c.depth h) where
-  pub walked-wrong : (n : ℕ) → h ≡ Wrong n → {o l : List ℕ} {t : Progress} → Wrote (WalkedPass w x c level tag) c.from c.end one_element 1 o o l l t Stop
+    {h : Result Spot Refusal} (is : h ≡ item_head x.bytes c.from c.end c.unstated c.depth) (within : Spotted c.from c.end c.depth h) where
+  pub walked-wrong : (r : Refusal) → h ≡ Err r → {o l : List ℕ} {t : Progress} → Wrote (WalkedPass w x c level tag) c.from c.end one_element 1 o o l l t None
   walked-wrong n e = record {
     out_size = refl;
     ledger_size = refl;
@@ -163,9 +162,9 @@ module _ {w : Settings} {x : Source} {c : Container} {level : Level} {tag : ℕ}
       go zero tree next lt f = absurd (omega arith)
       go (suc j) tree next lt f = absurd (was-wrong x c.from c.end c.unstated c.depth j tree next f n (sym e ∙ is))
 
-  pub walked-over : (past : ℕ) → h ≡ Over past → {o o₁ l : List ℕ} {t u : Progress} {p : ℕ} → u ≡ one_kept t p
+  pub walked-over : (past : ℕ) → h ≡ Ok (Over past) → {o o₁ l : List ℕ} {t u : Progress} {p : ℕ} → u ≡ one_kept t p
       → (p ≡ t.pos + length (header tag SQ 0)) × (o₁ ≡ laid o t.pos (header tag SQ 0)) → t.used ≤ slots_of l
-      → Wrote (WalkedPass w x c level tag) c.from c.end one_element 1 o o₁ l l t (To past u)
+      → Wrote (WalkedPass w x c level tag) c.from c.end one_element 1 o o₁ l l t (Some (past, u))
   walked-over past e {o} {o₁} {l} {t} {u} {p} eu ep fits = rw eu (record {
     out_size = ap length ep.1 ∙ length-laid o t.pos _;
     ledger_size = refl;
@@ -181,7 +180,7 @@ module _ {w : Settings} {x : Source} {c : Container} {level : Level} {tag : ℕ}
         );
   })
     where
-      lies : Spotted c.from c.end c.depth (Over past)
+      lies : Spotted c.from c.end c.depth (Ok (Over past))
       lies = rw e at within
 
       go : (k : ℕ) (tree : Items Place) (next : ℕ) → c.end - c.from < k → items_at k x c.from c.end c.unstated c.depth ≡ good tree next
@@ -189,7 +188,7 @@ module _ {w : Settings} {x : Source} {c : Container} {level : Level} {tag : ℕ}
       go zero tree next lt f = absurd (omega arith)
       go (suc j) tree next lt f = was-over x c.from c.end c.unstated c.depth j tree next f past (sym e ∙ is)
 
-  pub walked-item : (body stop : ℕ) (m : Bool) → h ≡ Item body stop m → {o o₁ o₂ l l₂ : List ℕ} {t u : Progress} {p : ℕ} {lower : Level} {r : Walk} → u ≡ one_kept t p
+  pub walked-item : (body stop : ℕ) (m : Bool) → h ≡ Ok (Item body stop m) → {o o₁ o₂ l l₂ : List ℕ} {t u : Progress} {p : ℕ} {lower : Level} {r : Walk} → u ≡ one_kept t p
       → (p ≡ t.pos + length (header tag SQ undefined)) × (o₁ ≡ laid o t.pos (header tag SQ undefined)) → lower ≡ below Walked level
       → Wrote (ItemsPass w x c lower) c.from c.end one_mark 0 o₁ o₂ l l₂ u r
       → Wrote (WalkedPass w x c level tag) c.from c.end one_element 1 o o₂ l l₂ t r
@@ -245,20 +244,20 @@ module _ {w : Settings} {x : Source} {c : Container} {level : Level} {o o₁ o�
       (λ out₀ l₀ base st g. rw eu (holds-say g (mark item_tag undefined) ep.1 ep.0))
       (ap length ep.1 ∙ length-laid o t.pos _) (ap (λ v. v.used) eu) (omega (arith, ap (λ v. v.pos) eu, ep.0)) (omega (arith, ap met eu)) (omega arith) (omega arith) y
 
-  pub item-stop : r ≡ Stop → Wrote (ItemPass w x c level) c.from c.end one_item 0 o o₂ l l₂ t Stop
+  pub item-stop : r ≡ None → Wrote (ItemPass w x c level) c.from c.end one_item 0 o o₂ l l₂ t None
   item-stop e = wrote-stop split opened e
 
-  pub item-done : (past : ℕ) (v z : Progress) (n : ℕ) {o₃ : List ℕ} → r ≡ To past v → z ≡ at_place v n → (n ≡ v.pos + 8) × (o₃ ≡ laid o₂ v.pos (mark item_end 0))
-      → Wrote (ItemPass w x c level) c.from c.end one_item 0 o o₃ l l₂ t (To past z)
+  pub item-done : (past : ℕ) (v z : Progress) (n : ℕ) {o₃ : List ℕ} → r ≡ Some (past, v) → z ≡ at_place v n → (n ≡ v.pos + 8) × (o₃ ≡ laid o₂ v.pos (mark item_end 0))
+      → Wrote (ItemPass w x c level) c.from c.end one_item 0 o o₃ l l₂ t (Some (past, z))
   unfolding mark split
   item-done past v z n {o₃} e ez en =
-      let b : Within c.from c.end (all_markers + 8) 0 l t (To past v) = rw e at opened.bounds in rw ez (record {
+      let b : Within c.from c.end (all_markers + 8) 0 l t (Some (past, v)) = rw e at opened.bounds in rw ez (record {
         out_size = ap length en.1 ∙ length-laid o₂ v.pos _ ∙ opened.out_size;
         ledger_size = opened.ledger_size;
         slots_kept = opened.slots_kept;
         bounds = omega (arith, en.0);
         right = λ next st st' i out₀ l₀ base g.
             let q = split next st st' i in
-            let d : Ends out₀ l₀ base o₂ l₂ next q.1 (To past v) = rw e at (opened.right next st q.1 q.2 out₀ l₀ base g) in
+            let d : Ends out₀ l₀ base o₂ l₂ next q.1 (Some (past, v)) = rw e at (opened.right next st q.1 q.2 out₀ l₀ base g) in
             (d.0, rw i.ends (holds-say d.1 (mark item_end 0) en.1 en.0));
       })

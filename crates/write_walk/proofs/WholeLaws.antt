@@ -6,7 +6,7 @@
 use mathlib.Core.Path.{◌≡◌, refl, sym, ap, ap₂, subst, ◌∙◌}
 use mathlib.Core.Bool.{false}
 use mathlib.Core.List.{List, [], map}
-use mathlib.Core.Option.{none}
+use Rattle.std.specs.Prelude.{None, Some}
 use Prim.Native.Nat.{ℕ, suc, ◌+◌, ◌*◌, ◌≤◌}
 use native.Mathlib.Omega.{arith}
 use lib.ListN.{length}
@@ -35,11 +35,9 @@ use Rattle.write_markers.specs.Gains.{all_markers, with_markers_if}
 use Rattle.write_markers.proofs.GainsLaws.{with_markers-start}
 use Rattle.layout.specs.Walks.{container}
 use Rattle.write_state.specs.Passed.{State, tree_for, passed}
-use Rattle.write_state.specs.Wrote.{Holds, Ends, Within, Wrote, ElementsPass}
+use Rattle.write_state.specs.Wrote.{Holds, Ends, Within, Wrote, ElementsPass, Walk}
 use Rattle.write_walk.specs.Whole.{Ended, Whole}
 use Rattle.write_state.specs.declared.Progress.{Progress}
-use Rattle.write_state.specs.declared.Walk.{Walk}
-use Rattle.write_state.specs.declared.Walk.TheVariants.{Stop, To}
 use Rattle.write_state.proofs.PassedLaws.{counts-is}
 
 abbrev pub begun : ℕ → ℕ → Progress
@@ -81,7 +79,7 @@ plus-none c = counts-is (omega arith) (omega arith) (omega arith) (omega arith)
 
 module _ {w : Settings} {x : Source} {l l' : List ℕ} {used : ℕ} {o o' : List ℕ} {pos : ℕ} {r : Walk} (fits : used ≤ slots_of l)
     (y : Wrote (ElementsPass w x (container 0 (length x.bytes) false deepest) Top 0) 0 (length x.bytes) all_markers 0 o o' l l' (begun used pos) r) where
-  pass : (es : Elements Place) (past : ℕ) → read deepest x ≡ good es past → first_fault es w Top ≡ none
+  pass : (es : Elements Place) (past : ℕ) → read deepest x ≡ good es past → first_fault es w Top ≡ None
       → ElementsPass w x (container 0 (length x.bytes) false deepest) Top 0 past (first-state l used) (passed w Top 0 es (first-state l used))
   unfolding read
   pass es past e sound = record {
@@ -95,10 +93,10 @@ module _ {w : Settings} {x : Source} {l l' : List ℕ} {used : ℕ} {o o' : List
       → Within 0 (length x.bytes) all_markers 0 l (begun used pos) r → Ends o l pos o' l' past (passed i.settings Top 0 es (first-state l used)) r
       → Ended i es past o o' l l' pos r
   unfolding passed
-  ended i el eu es past e Stop b h =
+  ended i el eu es past e None b h =
       let n : (passed i.settings Top 0 es (first-state l used)).slots ≡ slots_after i =
       ap₂ (λ a b. (passed i.settings Top 0 es (first-state a b)).slots) (sym el) (sym eu) ∙ last-slots i es past e in omega (arith, h, ap length n)
-  ended i el eu es past e (To p t) b h =
+  ended i el eu es past e (Some (p, t)) b h =
       let n : (passed i.settings Top 0 es (first-state l used)).slots ≡ slots_after i =
       ap₂ (λ a b. (passed i.settings Top 0 es (first-state a b)).slots) (sym el) (sym eu) ∙ last-slots i es past e in
       let z : (passed i.settings Top 0 es (first-state l used)).bytes ≡ bytes_for i =

@@ -1,13 +1,15 @@
 -- `buffer::copy_block` meets its contract. Assumes nothing.
-use Rattle.buffer.proofs.Laws.{laid-past, laid-cut}
 use mathlib.Core.Path.{refl, sym, ◌∙◌}
 use native.Mathlib.Omega.{arith}
+use Rattle.buffer.proofs.Laws.{laid-fits, laid-past}
 use Rattle.buffer.proofs.copy_block.Goals as goal
+use Rattle.buffer.proofs.copy_block.Goals.{then-pos-out, else-pos-out}
 
-pub returns-then-out-pos : goal.returns-then-out-pos
-returns-then-out-pos c = (refl, sym (laid-past _ _ _ c.if-out-pos.true))
-
-pub returns-then-room-len : goal.returns-then-room-len
-returns-then-room-len c =
-    let a = c.args in
-    (refl, c.copy.ensures ∙ laid-cut a.out.now a.s.now a.pos a.from a.to (omega arith) (omega arith))
+pub returns : goal.returns
+returns c = (
+  refl,
+  elim c.if-pos-out.branch [
+    | then-pos-out w ↦ w.out-is ∙ w.copy.ensures ∙ laid-fits _ _ _ c.args.bytes.now (omega arith)
+    | else-pos-out w ↦ w.out-is ∙ sym (laid-past _ _ _ w.if-pos-out.false)
+  ],
+)

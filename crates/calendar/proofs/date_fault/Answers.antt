@@ -1,49 +1,28 @@
--- `calendar::date_fault` meets its contract. Assumes nothing.
-use mathlib.Core.Path.{ap}
-use mir.Facts.{to_z-of_z}
-use Rattle.calendar.specs.Dates.{date_in}
-use Rattle.calendar.proofs.Judging.{judge-nothing, judge-start, judge-cut, judge-bad, judge-last, judge-on}
-use native.Mathlib.Omega.{arith}
+-- `calendar::date_fault` meets its contract: an empty value, or the pieces of another. Assumes nothing.
+use mathlib.Core.Path.{sym, ap, ◌∙◌}
+use mathlib.Core.Bool.{not}
+use mathlib.Core.List.{List}
+use Prim.Native.Nat.{ℕ}
+use Rattle.std.proofs.Common.{rules, tests}
+use Rattle.std.proofs.lemmas.Iterator.Search.{any_from_yields_List}
+use Rattle.std.proofs.lemmas.Iterator.Splits.{YieldsList-from_slice_split}
+use lib.Dec.{eqb}
+use lib.ListN.{take}
+use Rattle.basis.specs.Choice.{is_none}
+use Rattle.basis.specs.Pieces.{backslash}
+use Rattle.calendar.specs.Text.{moved_date}
+use Rattle.calendar.proofs.Judging.{fault-none, fault-is}
 use Rattle.calendar.proofs.date_fault.Goals as goal
 
-pub returns-then-from-to : goal.returns-then-from-to
-returns-then-from-to c = let a = c.args in judge-nothing a.da a.s.now a.from a.to a.days c.if-from-to.true
+pub returns-then-not-is_empty : goal.returns-then-not-is_empty
+returns-then-not-is_empty c =
+    let a = c.args in
+    let cut : List ℕ = take c.dates_end.result a.value.now in
+    any_from_yields_List (λ u. is_none (moved_date a.da a.days u)) _ _ _ c.any.ensures.ran
+    (YieldsList-from_slice_split _ (λ x. eqb x backslash) cut c.split.ensures.rest c.split.ensures.done c.split.ensures.closure (λ x b q k. search (rules, tests)))
+    (λ x b q k. search (rules, tests))
+    ∙ rw c.dates_end.ensures.end (fault-is a.da a.days a.value.now (sym c.is_empty.ensures ∙ c.if-not-is_empty.true))
 
-pub loop-a-init : goal.loop-a-init
-loop-a-init c = judge-start _ _ _ _ _ c.requires.1 (omega (arith, c.requires.0, c.if-from-to.false)) c.dates_end-stop.ensures
-
-pub piece_end-b-requires : goal.piece_end-b-requires
-piece_end-b-requires c = let g = c.loop-a.invariant in omega (arith, g.hi, g.upto, g.in_s)
-
-pub moved_date-m-requires : goal.moved_date-m-requires
-moved_date-m-requires c =
-    let g = c.loop-a.invariant in
-    let u = judge-cut g c.piece_end-b.ensures in
-    omega (arith, u.from, u.upto, g.upto, g.in_s)
-
-pub returns-in-Refused : goal.returns-in-Refused
-returns-in-Refused c =
-    judge-bad c.loop-a.invariant c.piece_end-b.ensures c.moved_date-m.ensures
-    (ap date_in c.in-Refused.is) (to_z-of_z c.ranges.days)
-
-pub returns-then-b-stop : goal.returns-then-b-stop
-returns-then-b-stop c =
-    judge-last c.loop-a.invariant c.piece_end-b.ensures c.moved_date-m.ensures
-    (ap date_in c.in-To.is) c.if-b-stop.true (to_z-of_z c.ranges.days)
-
-pub overflow_add-a : goal.overflow_add-a
-overflow_add-a c =
-    let g = c.loop-a.invariant in
-    let u = judge-cut g c.piece_end-b.ensures in
-    omega (arith, u.upto, g.upto, g.in_s, c.if-b-stop.false)
-
-pub loop-a-smaller : goal.loop-a-smaller
-loop-a-smaller c =
-    let u = judge-cut c.loop-a.invariant c.piece_end-b.ensures in
-    omega (arith, u.from, u.upto, c.if-b-stop.false)
-
-pub loop-a-preserved : goal.loop-a-preserved
-loop-a-preserved c =
-    let u = judge-cut c.loop-a.invariant c.piece_end-b.ensures in
-    judge-on c.loop-a.invariant c.piece_end-b.ensures c.moved_date-m.ensures
-    (ap date_in c.in-To.is) (omega (arith, u.upto, c.if-b-stop.false))
+pub returns-else-not-is_empty : goal.returns-else-not-is_empty
+returns-else-not-is_empty c =
+    ap not c.if-not-is_empty.false ∙ fault-none c.args.da c.args.days c.args.value.now (sym c.is_empty.ensures ∙ c.if-not-is_empty.false)

@@ -1,11 +1,7 @@
--- The loop of `calendar::put_shifted`. The invariant is `Writing`: what is written and the pieces left make the text. The measure: what is left of the
--- value.
-use Prim.Native.Nat.{◌-◌}
+-- The loop of `calendar::put_shifted`. The invariant is `Writing`: the pieces so far are written.
+use lib.ListN.{length}
 use Rattle.calendar.proofs.Writing.{Writing}
 use Rattle.calendar.proofs.put_shifted.Given as goal
 
-abbrev pub invariant-loop-out : goal.invariant-loop-out
-invariant-loop-out l = Writing l.da l.s l.from l.to l.days l.stop l.initial.out l.pos l.out l.a l.p
-
-abbrev pub decreases-loop-out : goal.decreases-loop-out
-decreases-loop-out l = l.stop - l.a
+abbrev pub invariant-loop-i : goal.invariant-loop-i
+invariant-loop-i l = Writing l.da l.days l.value l.initial.out l.pos (length l.yielded) l.at l.out

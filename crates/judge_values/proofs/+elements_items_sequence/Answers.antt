@@ -1,97 +1,58 @@
 -- The cycle of `judge_values::elements`, `judge_values::items`, `judge_values::sequence` meets its contracts. Assumes nothing.
-use Rattle.layout.specs.Walks.{Inside, Within}
+use mathlib.Core.Path.{◌≡◌}
+use Rattle.std.specs.Prelude.{Ok}
+use Rattle.std.proofs.lemmas.Result.{err_from_is_err_and}
 use Rattle.layout.specs.declared.Head.TheVariants.{Plain, Seq}
-use Rattle.layout.specs.declared.Spot.TheVariants.{Item}
-use Rattle.judge_values.proofs.JudgeLaws.{start, start-items, stop-bad, stop-end, stop-plain, go-plain, stop-seq, go-seq, stop-wrong, stop-over, stop-item, go-item, goes-in, passes}
+use Rattle.judge_values.proofs.JudgeLaws.{stop-bad, stop-end, stop-plain, go-plain, stop-seq, go-seq, stop-wrong, stop-over, stop-item, go-item, goes-in, passes}
 use native.Mathlib.Omega.{arith}
 use Rattle.judge_values.proofs.+elements_items_sequence.Goals as goal
+use Rattle.judge_values.proofs.+elements_items_sequence.Goals.{elements-in-Plain+in_ok-located-in-Plain, elements-in-Seq+in_ok-sequence-in-Seq}
 
-pub elements-loop-number-init : goal.elements-loop-number-init
-elements-loop-number-init t c = start c.requires.1
-
-pub elements-returns-in-Bad : goal.elements-returns-in-Bad
-elements-returns-in-Bad t c = stop-bad c.loop-number.invariant c.element_head-h.ensures.value c.element_head-h.ensures.inside _ c.in-Bad.is
+pub elements-returns-in_err-head : goal.elements-returns-in_err-head
+elements-returns-in_err-head t c =
+    let p = err_from_is_err_and c.from_residual.result c.from_residual.ensures.1 in
+    rw (p.1, p.2) (stop-bad c.loop-head.invariant c.element_head.ensures.value c.element_head.ensures.inside _ (grind arith))
 
 pub elements-returns-in-End : goal.elements-returns-in-End
-elements-returns-in-End t c = stop-end c.loop-number.invariant c.element_head-h.ensures.value c.element_head-h.ensures.inside _ c.in-End.is
+elements-returns-in-End t c = stop-end c.loop-head.invariant c.element_head.ensures.value c.element_head.ensures.inside _ (grind arith)
 
-pub elements-element_fault-f-requires : goal.elements-element_fault-f-requires
-elements-element_fault-f-requires t c =
-    let v : Inside c.loop-number.at c.args.c.end (Plain c.in-Plain.tag c.in-Plain.vr c.in-Plain.body c.in-Plain.past) = rw c.in-Plain.is at c.element_head-h.ensures.inside in
-    (c.requires.0, omega arith, omega arith)
+pub elements-returns-in_err-located-in-Plain : goal.elements-returns-in_err-located-in-Plain
+elements-returns-in_err-located-in-Plain t c =
+    let p = err_from_is_err_and c.from_residual-in_err-located-in-Plain.result c.from_residual-in_err-located-in-Plain.ensures.1 in
+    let e : c.element_head.result ≡ Ok (Plain c.in-Plain.tag c.in-Plain.vr c.in-Plain.body c.in-Plain.past) = grind arith in
+    rw (p.1, p.2) (stop-plain c.loop-head.invariant c.element_head.ensures.value c.element_head.ensures.inside e c.check_element.ensures _ (grind arith) (grind arith))
 
-pub elements-returns-then-f-ne0 : goal.elements-returns-then-f-ne0
-elements-returns-then-f-ne0 t c = stop-plain c.loop-number.invariant c.element_head-h.ensures.value c.element_head-h.ensures.inside c.in-Plain.is c.element_fault-f.ensures c.if-f-ne0.true
+pub elements-returns-in_err-sequence-in-Seq : goal.elements-returns-in_err-sequence-in-Seq
+elements-returns-in_err-sequence-in-Seq t c =
+    let p = err_from_is_err_and c.from_residual-in_err-sequence-in-Seq.result c.from_residual-in_err-sequence-in-Seq.ensures.1 in
+    let e : c.element_head.result ≡ Ok (Seq c.in-Seq.tag c.in-Seq.body c.in-Seq.stop c.in-Seq.unstated) = grind arith in
+    rw (p.1, p.2) (stop-seq c.loop-head.invariant c.element_head.ensures.value c.element_head.ensures.inside e c.sequence.ensures _ c.in_err-sequence-in-Seq.was)
 
-pub elements-overflow_add-low : goal.elements-overflow_add-low
-elements-overflow_add-low t c =
-    let v : Inside c.loop-number.at c.args.c.end (Plain c.in-Plain.tag c.in-Plain.vr c.in-Plain.body c.in-Plain.past) = rw c.in-Plain.is at c.element_head-h.ensures.inside in
-    omega arith
+pub elements-loop-head-preserved : goal.elements-loop-head-preserved
+elements-loop-head-preserved t c = elim c.match-head.branch [
+  | elements-in-Plain+in_ok-located-in-Plain w ↦
+      let e : c.element_head.result ≡ Ok (Plain w.in-Plain.tag w.in-Plain.vr w.in-Plain.body w.in-Plain.past) = grind arith in
+      rw w.tag-is (go-plain c.loop-head.invariant c.element_head.ensures.value c.element_head.ensures.inside e w.check_element.ensures (grind arith))
+  | elements-in-Seq+in_ok-sequence-in-Seq w ↦
+      let e : c.element_head.result ≡ Ok (Seq w.in-Seq.tag w.in-Seq.body w.in-Seq.stop w.in-Seq.unstated) = grind arith in
+      rw w.tag-is (go-seq c.loop-head.invariant c.element_head.ensures.value c.element_head.ensures.inside e w.sequence.ensures _ w.in_ok-sequence-in-Seq.was)
+]
 
-pub elements-loop-number-smaller-in-Plain : goal.elements-loop-number-smaller-in-Plain
-elements-loop-number-smaller-in-Plain t c =
-    let v : Inside c.loop-number.at c.args.c.end (Plain c.in-Plain.tag c.in-Plain.vr c.in-Plain.body c.in-Plain.past) = rw c.in-Plain.is at c.element_head-h.ensures.inside in
-    omega arith
-
-pub elements-loop-number-preserved-in-Plain : goal.elements-loop-number-preserved-in-Plain
-elements-loop-number-preserved-in-Plain t c = go-plain c.loop-number.invariant c.element_head-h.ensures.value c.element_head-h.ensures.inside c.in-Plain.is c.element_fault-f.ensures c.if-f-ne0.false
-
-pub elements-sequence-q-requires : goal.elements-sequence-q-requires
-elements-sequence-q-requires t c =
-    let v : Inside c.loop-number.at c.args.c.end (Seq c.in-Seq.tag c.in-Seq.body c.in-Seq.stop c.in-Seq.m) = rw c.in-Seq.is at c.element_head-h.ensures.inside in
-    (omega arith, (c.requires.0, omega arith, omega arith))
-
-pub elements-returns-in-Fault : goal.elements-returns-in-Fault
-elements-returns-in-Fault t c = stop-seq c.loop-number.invariant c.element_head-h.ensures.value c.element_head-h.ensures.inside c.in-Seq.is c.sequence-q.ensures _ _ c.in-Fault.is
-
-pub elements-overflow_add-low-in-Fine : goal.elements-overflow_add-low-in-Fine
-elements-overflow_add-low-in-Fine t c =
-    let v : Inside c.loop-number.at c.args.c.end (Seq c.in-Seq.tag c.in-Seq.body c.in-Seq.stop c.in-Seq.m) = rw c.in-Seq.is at c.element_head-h.ensures.inside in
-    omega arith
-
-pub elements-loop-number-smaller : goal.elements-loop-number-smaller
-elements-loop-number-smaller t c =
-    let v : Inside c.loop-number.at c.args.c.end (Seq c.in-Seq.tag c.in-Seq.body c.in-Seq.stop c.in-Seq.m) = rw c.in-Seq.is at c.element_head-h.ensures.inside in
-    omega (arith, (rw c.in-Fine.is at c.sequence-q.ensures.stays).0)
-
-pub elements-loop-number-preserved : goal.elements-loop-number-preserved
-elements-loop-number-preserved t c = go-seq c.loop-number.invariant c.element_head-h.ensures.value c.element_head-h.ensures.inside c.in-Seq.is c.sequence-q.ensures _ c.in-Fine.is
-
-pub items-loop-number-init : goal.items-loop-number-init
-items-loop-number-init t c = start-items c.requires.1
-
-pub items-returns-in-Wrong : goal.items-returns-in-Wrong
-items-returns-in-Wrong t c = stop-wrong c.loop-number.invariant c.item_head-h.ensures.value c.item_head-h.ensures.within _ c.in-Wrong.is
+pub items-returns-in_err-spot : goal.items-returns-in_err-spot
+items-returns-in_err-spot t c =
+    let p = err_from_is_err_and c.from_residual.result c.from_residual.ensures.1 in
+    rw (p.1, p.2) (stop-wrong c.loop-spot.invariant c.item_head.ensures.value c.item_head.ensures.within _ (grind arith))
 
 pub items-returns-in-Over : goal.items-returns-in-Over
-items-returns-in-Over t c = stop-over c.loop-number.invariant c.item_head-h.ensures.value c.item_head-h.ensures.within _ c.in-Over.is
+items-returns-in-Over t c = stop-over c.loop-spot.invariant c.item_head.ensures.value c.item_head.ensures.within _ (grind arith)
 
-pub items-overflow_sub-depth : goal.items-overflow_sub-depth
-items-overflow_sub-depth t c =
-    let v : Within c.loop-number.at c.args.c.end c.args.c.depth (Item c.in-Item.body c.in-Item.stop c.in-Item.m) = rw c.in-Item.is at c.item_head-h.ensures.within in
-    omega arith
+pub items-returns-in_err-at-in-Item : goal.items-returns-in_err-at-in-Item
+items-returns-in_err-at-in-Item t c =
+    let p = err_from_is_err_and c.from_residual-in_err-at-in-Item.result c.from_residual-in_err-at-in-Item.ensures.1 in
+    rw (p.1, p.2) (stop-item c.loop-spot.invariant c.item_head.ensures.value c.item_head.ensures.within (grind arith) c.elements.ensures _ c.in_err-at-in-Item.was)
 
-pub items-elements-q-requires : goal.items-elements-q-requires
-items-elements-q-requires t c =
-    let v : Within c.loop-number.at c.args.c.end c.args.c.depth (Item c.in-Item.body c.in-Item.stop c.in-Item.m) = rw c.in-Item.is at c.item_head-h.ensures.within in
-    (omega arith, (c.requires.0, omega arith, omega arith))
-
-pub items-returns-in-Fault : goal.items-returns-in-Fault
-items-returns-in-Fault t c = stop-item c.loop-number.invariant c.item_head-h.ensures.value c.item_head-h.ensures.within c.in-Item.is c.elements-q.ensures _ _ c.in-Fault.is
-
-pub items-loop-number-smaller : goal.items-loop-number-smaller
-items-loop-number-smaller t c =
-    let v : Within c.loop-number.at c.args.c.end c.args.c.depth (Item c.in-Item.body c.in-Item.stop c.in-Item.m) = rw c.in-Item.is at c.item_head-h.ensures.within in
-    omega (arith, (rw c.in-Fine.is at c.elements-q.ensures.stays).0)
-
-pub items-loop-number-preserved : goal.items-loop-number-preserved
-items-loop-number-preserved t c = go-item c.loop-number.invariant c.item_head-h.ensures.value c.item_head-h.ensures.within c.in-Item.is c.elements-q.ensures _ c.in-Fine.is
-
-pub sequence-fate_of-fate-requires : goal.sequence-fate_of-fate-requires
-sequence-fate_of-fate-requires t c = c.requires.0
-
-pub sequence-items-requires : goal.sequence-items-requires
-sequence-items-requires t c = (omega arith, (c.requires.0, omega arith, omega arith))
+pub items-loop-spot-preserved : goal.items-loop-spot-preserved
+items-loop-spot-preserved t c = go-item c.loop-spot.invariant c.item_head.ensures.value c.item_head.ensures.within (grind arith) c.elements.ensures _ c.in_ok-at-in-Item.was
 
 pub sequence-returns-then-walks_into : goal.sequence-returns-then-walks_into
 sequence-returns-then-walks_into t c = goes-in c.fate_of-fate.ensures c.walks_into.ensures c.if-walks_into.true c.below-inner.ensures c.items.ensures

@@ -13,14 +13,14 @@ decreases-items l = 3 * (l.c.end - l.c.from) + 1
 abbrev pub decreases-sequence : goal.decreases-sequence
 decreases-sequence l = 3 * (l.c.end - l.c.from) + 2
 
-abbrev pub invariant-elements-loop-number : goal.invariant-elements-loop-number
-invariant-elements-loop-number l = Going l.n (explicitly l.s) l.c l.level l.at l.low
+abbrev pub invariant-elements-loop-head : goal.invariant-elements-loop-head
+invariant-elements-loop-head l = Going l.rules.numbers (explicitly l.s) l.c l.level l.at l.low
 
-abbrev pub decreases-elements-loop-number : goal.decreases-elements-loop-number
-decreases-elements-loop-number l = l.c.end - l.at
+abbrev pub decreases-elements-loop-head : goal.decreases-elements-loop-head
+decreases-elements-loop-head l = l.c.end - l.at
 
-abbrev pub invariant-items-loop-number : goal.invariant-items-loop-number
-invariant-items-loop-number l = GoingItems l.n (explicitly l.s) l.c l.level l.at
+abbrev pub invariant-items-loop-spot : goal.invariant-items-loop-spot
+invariant-items-loop-spot l = GoingItems l.rules.numbers (explicitly l.s) l.c l.level l.at
 
-abbrev pub decreases-items-loop-number : goal.decreases-items-loop-number
-decreases-items-loop-number l = l.c.end - l.at
+abbrev pub decreases-items-loop-spot : goal.decreases-items-loop-spot
+decreases-items-loop-spot l = l.c.end - l.at

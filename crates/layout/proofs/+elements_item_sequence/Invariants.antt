@@ -13,14 +13,14 @@ decreases-item l = 3 * (l.c.end - l.c.from) + 1
 abbrev pub decreases-sequence : goal.decreases-sequence
 decreases-sequence l = 3 * (l.c.end - l.c.from) + 2
 
-abbrev pub invariant-elements-loop-n : goal.invariant-elements-loop-n
-invariant-elements-loop-n l = Going (explicitly l.s) l.c l.at l.low
+abbrev pub invariant-elements-loop-head : goal.invariant-elements-loop-head
+invariant-elements-loop-head l = Going (explicitly l.s) l.c l.at l.low
 
-abbrev pub decreases-elements-loop-n : goal.decreases-elements-loop-n
-decreases-elements-loop-n l = l.c.end - l.at
+abbrev pub decreases-elements-loop-head : goal.decreases-elements-loop-head
+decreases-elements-loop-head l = l.c.end - l.at
 
-abbrev pub invariant-sequence-loop-n : goal.invariant-sequence-loop-n
-invariant-sequence-loop-n l = GoingItems (explicitly l.s) l.c l.at
+abbrev pub invariant-sequence-loop-spot : goal.invariant-sequence-loop-spot
+invariant-sequence-loop-spot l = GoingItems (explicitly l.s) l.c l.at
 
-abbrev pub decreases-sequence-loop-n : goal.decreases-sequence-loop-n
-decreases-sequence-loop-n l = l.c.end - l.at
+abbrev pub decreases-sequence-loop-spot : goal.decreases-sequence-loop-spot
+decreases-sequence-loop-spot l = l.c.end - l.at

@@ -1,8 +1,7 @@
 -- `key_of` meets its contract: the UID is written over zeros. Assumes nothing.
 use mathlib.Core.Path.{◌∙◌}
 use Rattle.ledger.proofs.SlotLaws.{slot_of-laid}
-use native.Mathlib.Omega.{arith}
 use Rattle.ledger.proofs.key_of.Goals as goal
 
 pub returns : goal.returns
-returns c = c.copy.ensures ∙ slot_of-laid c.args.s.now c.args.from c.args.to (omega arith) (omega arith)
+returns c = c.copy.ensures ∙ slot_of-laid c.args.uid.now c.requires

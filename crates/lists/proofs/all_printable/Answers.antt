@@ -4,9 +4,8 @@ use Rattle.lists.specs.Lists.{printable}
 use Rattle.lists.proofs.ListsLaws.{every-end, every-turn}
 use Rattle.lists.proofs.all_printable.Goals as goal
 
-pub loop-i-preserved : goal.loop-i-preserved
-loop-i-preserved c =
-    c.loop-i.invariant ∙ every-turn printable c.args.s.now c.loop-i.i c.args.to c.loop-i.all c.loop-i-test.true c.requires c.is_printable-all.result c.is_printable-all.ensures
+pub loop-b-preserved : goal.loop-b-preserved
+loop-b-preserved c = c.loop-b.invariant ∙ every-turn printable c.args.value.now c.loop-b.b-index c.loop-b.all c.loop-b-test.true _ c.is_printable-all.ensures
 
 pub returns : goal.returns
-returns c = sym (c.loop-i.invariant ∙ every-end printable c.args.s.now c.loop-i.i c.args.to c.loop-i.all c.loop-i-test.false)
+returns c = sym (c.loop-b.invariant ∙ every-end printable c.args.value.now c.loop-b.b-index c.loop-b.all c.loop-b-test.false)

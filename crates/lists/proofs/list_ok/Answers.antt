@@ -1,34 +1,40 @@
 -- `lists::list_ok` meets its contract. Assumes nothing.
-use borrow.Author.Tests.{not-true, not-false}
 use mathlib.Core.Path.{sym, ◌∙◌}
-use Rattle.lists.proofs.HandedLaws.{found_of-at, found_of-nothing}
-use Rattle.lists.proofs.ListsLaws.{entry_at-within, judging-start, judging-end, judging-many, judging-broken, judging-falls, judging-odd, judging-next}
+use Rattle.lists.proofs.ListsLaws.{entry_at-within, judging-start, judging-end, judging-last, judging-broken, judging-falls, judging-odd, judging-next}
 use native.Mathlib.Omega.{arith}
 use Rattle.lists.proofs.list_ok.Goals as goal
+use Rattle.lists.proofs.list_ok.Goals.{then-e-low-via-then-e-low, then-e-low-via-else-e-low+then-not-all_printable}
 
-pub loop-at-init : goal.loop-at-init
-loop-at-init c = judging-start _
+pub loop-init : goal.loop-init
+loop-init c = judging-start _
 
-pub returns-then-left-eq0 : goal.returns-then-left-eq0
-returns-then-left-eq0 c = sym (judging-many c.loop-at.invariant c.loop-at-test.true c.if-left-eq0.true)
+pub returns-then-s-at : goal.returns-then-s-at
+returns-then-s-at c = sym (judging-end c.loop.invariant c.if-s-at.true)
 
-pub returns-in-Nothing : goal.returns-in-Nothing
-returns-in-Nothing c = sym (judging-broken c.loop-at.invariant c.loop-at-test.true c.if-left-eq0.false (found_of-nothing _ c.entry_at-next.ensures c.in-Nothing.is))
+pub returns-in_default : goal.returns-in_default
+returns-in_default c = sym (judging-broken c.loop.invariant c.if-s-at.false c.loop-test.true (sym c.in_default.ensures))
 
-pub returns-then-tag-low : goal.returns-then-tag-low
-returns-then-tag-low c = sym (judging-falls c.loop-at.invariant c.loop-at-test.true c.if-left-eq0.false (found_of-at _ _ c.entry_at-next.ensures c.in-At.is) c.if-tag-low.true)
+pub slice_bounds-all_printable-count : goal.slice_bounds-all_printable-count
+slice_bounds-all_printable-count c = omega (arith, (entry_at-within _ _ _ (sym c.in-Some.ensures)).some-bytes)
 
-pub all_printable-requires : goal.all_printable-requires
-all_printable-requires c = (entry_at-within _ _ _ (found_of-at _ _ c.entry_at-next.ensures c.in-At.is)).whole
+pub slice_bounds-all_printable-start : goal.slice_bounds-all_printable-start
+slice_bounds-all_printable-start c = omega (arith, (entry_at-within _ _ _ (sym c.in-Some.ensures)).some-bytes)
 
-pub returns-then-not-all_printable : goal.returns-then-not-all_printable
-returns-then-not-all_printable c = sym (judging-odd c.loop-at.invariant c.loop-at-test.true c.if-left-eq0.false (found_of-at _ _ c.entry_at-next.ensures c.in-At.is) (sym c.all_printable.ensures ∙ not-true _ c.if-not-all_printable.true-raw))
+pub slice_bounds-all_printable-end : goal.slice_bounds-all_printable-end
+slice_bounds-all_printable-end c = (entry_at-within _ _ _ (sym c.in-Some.ensures)).whole
+
+pub returns-then-e-low : goal.returns-then-e-low
+returns-then-e-low c =
+    elim c.then-e-low.branch [
+      | then-e-low-via-then-e-low w ↦ sym (judging-falls c.loop.invariant c.if-s-at.false c.loop-test.true (sym c.in-Some.ensures) w.if-e-low.true)
+      | then-e-low-via-else-e-low+then-not-all_printable w ↦ sym (judging-odd c.loop.invariant c.if-s-at.false c.loop-test.true (sym c.in-Some.ensures) (sym w.all_printable.ensures ∙ w.if-not-all_printable.true))
+    ]
 
 pub overflow_add-low : goal.overflow_add-low
-overflow_add-low c = omega (arith, (entry_at-within _ _ _ (found_of-at _ _ c.entry_at-next.ensures c.in-At.is)).tag)
+overflow_add-low c = omega (arith, (entry_at-within _ _ _ (sym c.in-Some.ensures)).tag)
 
-pub loop-at-preserved : goal.loop-at-preserved
-loop-at-preserved c = judging-next c.loop-at.invariant c.loop-at-test.true c.if-left-eq0.false (found_of-at _ _ c.entry_at-next.ensures c.in-At.is) c.if-tag-low.false (sym c.all_printable.ensures ∙ not-false _ c.if-not-all_printable.false-raw)
+pub loop-preserved : goal.loop-preserved
+loop-preserved c = judging-next c.loop.invariant c.if-s-at.false c.loop-test.true (sym c.in-Some.ensures) c.if-e-low.false (sym c.all_printable.ensures ∙ c.if-not-all_printable.false)
 
 pub returns : goal.returns
-returns c = sym (judging-end c.loop-at.invariant c.loop-at-test.false)
+returns c = sym (judging-last c.loop.invariant c.loop-test.false)

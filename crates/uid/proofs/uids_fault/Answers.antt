@@ -1,37 +1,39 @@
 -- `uids_fault` meets its contract: one law for each way before its loop, on in it or out of it. Assumes nothing.
-use Rattle.uid.proofs.FaultTurns.{fault-none, fault-odd, fault-start, fault-over, fault-bad, fault-long, fault-last, fault-inside, fault-go}
+use mathlib.Core.Path.{◌∙◌, sym}
+use borrow.Author.Tests.{eqb-true, eqb-false}
+use lib.ListN.{length}
 use native.Mathlib.Omega.{arith}
+use Rattle.uid.proofs.FaultTurns.{fault-none, fault-odd, fault-start, fault-over, fault-bad, fault-long, fault-last, fault-inside, fault-go}
 use Rattle.uid.proofs.uids_fault.Goals as goal
+use Rattle.uid.proofs.uids_fault.Goals.{then-n-eq0-via-then-n-eq0, then-n-eq0-via-else-n-eq0+then-n-gt-LONGEST_UID}
 
-pub returns-then-from-to : goal.returns-then-from-to
-returns-then-from-to c = fault-none _ _ _ c.requires.1 c.if-from-to.true
+pub returns-then-is_empty : goal.returns-then-is_empty
+returns-then-is_empty c = fault-none _ (eqb-true _ _ (sym c.is_empty.ensures ∙ c.if-is_empty.true))
 
-pub returns-then-to-from-ne0 : goal.returns-then-to-from-ne0
-returns-then-to-from-ne0 c = fault-odd _ _ _ c.requires.1 c.if-to-from-ne0.true
+pub returns-then-value-ne0 : goal.returns-then-value-ne0
+returns-then-value-ne0 c = fault-odd _ c.if-value-ne0.true
 
-pub trimmed_end-stop-requires : goal.trimmed_end-stop-requires
-trimmed_end-stop-requires c = c.requires
+pub loop-init : goal.loop-init
+loop-init c = fault-start _ _ (omega (arith, eqb-false (length c.args.value.now) 0 (sym c.is_empty.ensures ∙ c.if-is_empty.false))) c.if-value-ne0.false c.trimmed-rest.ensures.bytes
 
-pub loop-left-init : goal.loop-left-init
-loop-left-init c = fault-start _ _ _ (omega arith) c.requires.1 c.if-to-from-ne0.false _ c.trimmed_end-stop.ensures
+pub returns-then-n-eq0 : goal.returns-then-n-eq0
+returns-then-n-eq0 c =
+    elim c.then-n-eq0.branch [
+      | then-n-eq0-via-then-n-eq0 w ↦ fault-bad c.loop.invariant c.uid_len-n.ensures w.if-n-eq0.true
+      | then-n-eq0-via-else-n-eq0+then-n-gt-LONGEST_UID w ↦ fault-long c.loop.invariant c.uid_len-n.ensures w.if-n-gt-LONGEST_UID.true
+    ]
 
-pub uid_end-e-requires : goal.uid_end-e-requires
-uid_end-e-requires c = (c.loop-left.invariant.hi, c.loop-left.invariant.inside)
+pub returns-then-n-rest : goal.returns-then-n-rest
+returns-then-n-rest c = fault-last c.loop.invariant c.uid_len-n.ensures c.if-n-eq0.false c.if-n-gt-LONGEST_UID.false (omega arith) c.if-n-rest.true
 
-pub returns-then-e-a : goal.returns-then-e-a
-returns-then-e-a c = fault-bad c.loop-left.invariant c.uid_end-e.ensures c.if-e-a.true
+pub slice_bounds-rest-count : goal.slice_bounds-rest-count
+slice_bounds-rest-count c = omega (arith, fault-inside c.loop.invariant c.uid_len-n.ensures c.if-n-eq0.false c.if-n-gt-LONGEST_UID.false (omega arith) c.if-n-rest.false)
 
-pub returns-then-e-a-gt-LONGEST_UID : goal.returns-then-e-a-gt-LONGEST_UID
-returns-then-e-a-gt-LONGEST_UID c = fault-long c.loop-left.invariant c.uid_end-e.ensures c.if-e-a-gt-LONGEST_UID.true
+pub slice_bounds-rest-start : goal.slice_bounds-rest-start
+slice_bounds-rest-start c = omega (arith, fault-inside c.loop.invariant c.uid_len-n.ensures c.if-n-eq0.false c.if-n-gt-LONGEST_UID.false (omega arith) c.if-n-rest.false)
 
-pub returns-then-e-stop : goal.returns-then-e-stop
-returns-then-e-stop c = fault-last c.loop-left.invariant c.uid_end-e.ensures c.if-e-a.false c.if-e-a-gt-LONGEST_UID.false c.loop-left-test.true c.if-e-stop.true
-
-pub overflow_add-a : goal.overflow_add-a
-overflow_add-a c = omega (arith, fault-inside c.loop-left.invariant c.uid_end-e.ensures c.if-e-a.false c.if-e-a-gt-LONGEST_UID.false c.loop-left-test.true c.if-e-stop.false)
-
-pub loop-left-preserved : goal.loop-left-preserved
-loop-left-preserved c = fault-go c.loop-left.invariant c.uid_end-e.ensures c.if-e-a.false c.if-e-a-gt-LONGEST_UID.false c.loop-left-test.true c.if-e-stop.false
+pub loop-preserved : goal.loop-preserved
+loop-preserved c = fault-go c.loop.invariant c.uid_len-n.ensures c.if-n-eq0.false c.if-n-gt-LONGEST_UID.false (omega arith) c.if-n-rest.false
 
 pub returns : goal.returns
-returns c = fault-over c.loop-left.invariant (omega arith)
+returns c = fault-over c.loop.invariant (omega arith)

@@ -4,8 +4,8 @@ use lib.ListN.{length}
 use Rattle.view.proofs.SearchLaws.{Seeking}
 use Rattle.view.proofs.seek.Given as goal
 
-abbrev pub invariant-loop-n : goal.invariant-loop-n
-invariant-loop-n l = Seeking l.s l.wanted l.at l.low l.got
+abbrev pub invariant-loop-head : goal.invariant-loop-head
+invariant-loop-head l = Seeking l.s l.wanted l.at l.low l.found
 
-abbrev pub decreases-loop-n : goal.decreases-loop-n
-decreases-loop-n l = length l.s - l.at
+abbrev pub decreases-loop-head : goal.decreases-loop-head
+decreases-loop-head l = length l.s - l.at

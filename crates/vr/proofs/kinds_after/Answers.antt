@@ -1,6 +1,6 @@
 -- `vr::kinds_after` meets its contract: each number passes its test; no VR has another first letter. Assumes nothing.
 use mathlib.Core.Path.{refl}
-use borrow.Author.Tests.{ne_eqb}
+use native.Mathlib.Omega.{arith}
 use Rattle.basis.specs.Choice.{among}
 use Rattle.vr.specs.Vr.{kind_of}
 use Rattle.vr.proofs.KindsLaws.{tried, tried-kinds, kinds-none}
@@ -52,6 +52,4 @@ returns-in-85 c = tried-kinds _ _ _ c.in-85.is refl
 
 pub returns-in_default : goal.returns-in_default
 unfolding among
-returns-in_default c =
-    let n = c.in_default.in_default-own.rest in
-    kinds-none _ c.requires (simp (ne_eqb _ _ n.0.0.0.0.0.0.0.0.0.0.1, ne_eqb _ _ n.0.0.0.0.0.0.0.0.0.1, ne_eqb _ _ n.0.0.0.0.0.0.0.0.1, ne_eqb _ _ n.0.0.0.0.0.0.0.1, ne_eqb _ _ n.0.0.0.0.0.0.1, ne_eqb _ _ n.0.0.0.0.0.1, ne_eqb _ _ n.0.0.0.0.1, ne_eqb _ _ n.0.0.0.1, ne_eqb _ _ n.0.0.1, ne_eqb _ _ n.0.1, ne_eqb _ _ n.1))
+returns-in_default c = kinds-none _ c.requires (grind arith)

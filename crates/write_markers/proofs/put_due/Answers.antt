@@ -1,14 +1,31 @@
 -- `write_markers::put_due` meets its contract: the three, one after the other. Assumes nothing.
-use Rattle.write_markers.proofs.PutLaws.{wrote-due}
-use Rattle.write_markers.proofs.PartLaws.{yes-due-length, codes-due-length}
-use native.Mathlib.Omega.{arith}
+use mathlib.Core.Path.{sym, ◌∙◌}
+use Rattle.write_markers.proofs.PutLaws.{put-in, put-out, put-due}
 use Rattle.write_markers.proofs.put_due.Goals as goal
+use Rattle.write_markers.proofs.put_due.Goals.{then-is_due, else-is_due, then-is_due-2, else-is_due-2}
 
-pub codes_due-q-requires : goal.codes_due-q-requires
-codes_due-q-requires c = omega (arith, c.yes_due-p.ensures.0, yes-due-length c.args.options c.args.low c.args.high)
+pub returns-then-is_due-3 : goal.returns-then-is_due-3
+returns-then-is_due-3 c =
+    put-due _ _ c.args.options c.args.low c.args.high c.if-is_due.out c.if-is_due.p c.if-is_due-2.out c.if-is_due-2.p
+    (elim c.if-is_due.branch [
+      | then-is_due w ↦ rw (w.p-is, w.out-is) (put-in _ _ _ _ _ _ _ (sym c.is_due.ensures ∙ w.if-is_due.true) w.put_text-p.ensures)
+      | else-is_due w ↦ rw (w.p-is, w.out-is) (put-out _ _ _ _ _ _ _ (sym c.is_due.ensures ∙ w.if-is_due.false))
+    ])
+    (elim c.if-is_due-2.branch [
+      | then-is_due-2 w ↦ rw (w.p-is, w.out-is) (put-in _ _ _ _ _ _ _ (sym c.is_due-2.ensures ∙ w.if-is_due-2.true) w.put_codes-p.ensures)
+      | else-is_due-2 w ↦ rw (w.p-is, w.out-is) (put-out _ _ _ _ _ _ _ (sym c.is_due-2.ensures ∙ w.if-is_due-2.false))
+    ])
+    (put-in _ _ _ _ _ _ _ (sym c.is_due-3.ensures ∙ c.if-is_due-3.true) (rw c.date_word-word.ensures at c.put_text-p-then-is_due-3.ensures))
 
-pub dates_due-requires : goal.dates_due-requires
-dates_due-requires c = omega (arith, c.yes_due-p.ensures.0, yes-due-length c.args.options c.args.low c.args.high, c.codes_due-q.ensures.0, codes-due-length c.args.options c.args.low c.args.high)
-
-pub returns : goal.returns
-returns c = wrote-due c.args.out.now c.args.pos c.args.options c.args.low c.args.high c.yes_due-p.result c.codes_due-q.result c.dates_due.result _ _ _ c.yes_due-p.ensures c.codes_due-q.ensures c.dates_due.ensures
+pub returns-else-is_due-3 : goal.returns-else-is_due-3
+returns-else-is_due-3 c =
+    put-due _ _ c.args.options c.args.low c.args.high c.if-is_due.out c.if-is_due.p c.if-is_due-2.out c.if-is_due-2.p
+    (elim c.if-is_due.branch [
+      | then-is_due w ↦ rw (w.p-is, w.out-is) (put-in _ _ _ _ _ _ _ (sym c.is_due.ensures ∙ w.if-is_due.true) w.put_text-p.ensures)
+      | else-is_due w ↦ rw (w.p-is, w.out-is) (put-out _ _ _ _ _ _ _ (sym c.is_due.ensures ∙ w.if-is_due.false))
+    ])
+    (elim c.if-is_due-2.branch [
+      | then-is_due-2 w ↦ rw (w.p-is, w.out-is) (put-in _ _ _ _ _ _ _ (sym c.is_due-2.ensures ∙ w.if-is_due-2.true) w.put_codes-p.ensures)
+      | else-is_due-2 w ↦ rw (w.p-is, w.out-is) (put-out _ _ _ _ _ _ _ (sym c.is_due-2.ensures ∙ w.if-is_due-2.false))
+    ])
+    (put-out _ _ _ _ _ _ _ (sym c.is_due-3.ensures ∙ c.if-is_due-3.false))

@@ -1,16 +1,15 @@
 -- `write_markers::put_options` meets its contract. Assumes nothing.
-use Rattle.write_markers.proofs.PutLaws.{going-start, going-on, going-room, going-end}
-use native.Mathlib.Omega.{arith}
+use mathlib.Core.Path.{sym, ◌∙◌}
+use Rattle.write_markers.proofs.PutLaws.{left-chosen, left-other, on}
 use Rattle.write_markers.proofs.put_options.Goals as goal
+use Rattle.write_markers.proofs.put_options.Goals.{then-is_in, else-is_in}
 
-pub loop-bit-init : goal.loop-bit-init
-loop-bit-init c = going-start c.args.out.now c.args.pos c.args.options
-
-pub put_bit-p-requires : goal.put_bit-p-requires
-put_bit-p-requires c = omega (arith, going-room _ _ _ _ _ _ c.loop-bit.invariant)
-
-pub loop-bit-preserved : goal.loop-bit-preserved
-loop-bit-preserved c = going-on c.args.out.now c.args.pos c.args.options c.loop-bit.bit c.loop-bit.p c.put_bit-p.result c.loop-bit.out _ c.loop-bit.invariant c.put_bit-p.ensures
-
-pub returns : goal.returns
-returns c = going-end c.args.out.now c.args.pos c.args.options c.loop-bit.bit c.loop-bit.p c.loop-bit.out (omega arith) c.loop-bit.invariant
+pub loop-opt-preserved : goal.loop-opt-preserved
+loop-opt-preserved c =
+    let k = c.loop-opt.opt-index in
+    elim c.if-is_in.branch [
+      | then-is_in w ↦ rw (w.p-is, w.out-is)
+          (on _ _ _ _ (rw (w.code.ensures, w.meaning.ensures) at w.put_code-p.ensures)
+          (rw (left-chosen c.args.options k _ c.loop-opt-test.true (sym c.is_in.ensures ∙ w.if-is_in.true)) at c.loop-opt.invariant))
+      | else-is_in w ↦ rw (w.p-is, w.out-is, sym (left-other c.args.options k _ c.loop-opt-test.true (sym c.is_in.ensures ∙ w.if-is_in.false))) c.loop-opt.invariant
+    ]

@@ -1,10 +1,12 @@
--- The loop of `write_markers::put_options`. The invariant says what is written of the items, and what is left of them.
-use Prim.Native.Nat.{◌-◌}
-use Rattle.write_markers.proofs.PutLaws.{Going}
+-- The loop of `write_markers::put_options`: what is written so far, and then the items that are left, are all the items.
+use mathlib.Core.Path.{◌≡◌}
+use Prim.Native.Nat.{◌+◌}
+use lib.ListN.{length}
+use Rattle.buffer.specs.Buffer.{laid}
+use Rattle.write_markers.proofs.PartLaws.{options_part}
+use Rattle.write_markers.proofs.PutLaws.{left}
 use Rattle.write_markers.proofs.put_options.Given as goal
 
-abbrev pub invariant-loop-bit : goal.invariant-loop-bit
-invariant-loop-bit l = Going l.initial.out l.pos l.options l.bit l.p l.out
-
-abbrev pub decreases-loop-bit : goal.decreases-loop-bit
-decreases-loop-bit l = 6 - l.bit
+abbrev pub invariant-loop-opt : goal.invariant-loop-opt
+invariant-loop-opt l = (l.p + length (left l.options l.opt-index) ≡ l.pos + length (options_part l.options))
+    × (laid l.out l.p (left l.options l.opt-index) ≡ laid l.initial.out l.pos (options_part l.options))

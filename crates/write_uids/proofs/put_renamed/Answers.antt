@@ -1,25 +1,24 @@
 -- `write_uids::put_renamed` meets its contract: no byte in the value; no slot left; the whole element. Assumes nothing.
-use Rattle.uid.proofs.PadLaws.{trimmed-part}
-use Rattle.write_uids.proofs.Whole.{empty-value, text-place, stopped, finished}
+use mathlib.Core.Path.{sym, ap, ◌∙◌}
 use native.Mathlib.Omega.{arith}
+use lib.ListN.{length}
+use Rattle.uid.proofs.PadLaws.{length-trimmed}
+use Rattle.write_uids.proofs.Whole.{empty-value, stopped, finished}
 use Rattle.write_uids.proofs.put_renamed.Goals as goal
 
-pub returns-then-from-to : goal.returns-then-from-to
-returns-then-from-to c = empty-value _ _ _ _ _ _ _ _ _ c.requires.0 c.requires.1 c.requires.3 c.if-from-to.true _ _ c.put_header-p.ensures
+pub returns-then-is_empty : goal.returns-then-is_empty
+returns-then-is_empty c = empty-value c.requires.1 (sym c.is_empty.ensures ∙ c.if-is_empty.true) c.put_header-past.ensures
 
-pub put_uids-q-requires : goal.put_uids-q-requires
-put_uids-q-requires c =
-    let v = trimmed-part c.args.s.now c.args.from c.args.to c.requires.0 c.requires.1 _ c.trimmed_end-stop.ensures in
-    omega (arith, v.0, v.1, c.requires.1, c.requires.2, c.requires.3, c.requires.4)
+pub put_uids-requires : goal.put_uids-requires
+put_uids-requires c = omega (arith, ap length c.trimmed-uids.ensures.bytes, length-trimmed c.args.value.now)
 
-pub finish-e-requires : goal.finish-e-requires
-finish-e-requires c =
-    let v = text-place _ _ _ _ _ _ _ _ _ _ _ _ _ c.put_uids-q.ensures c.in-To.is in
-    let u = trimmed-part c.args.s.now c.args.from c.args.to c.requires.0 c.requires.1 _ c.trimmed_end-stop.ensures in
-    omega (arith, v, u.0, u.1, c.requires.4)
+pub returns-in_err-end : goal.returns-in_err-end
+returns-in_err-end c = rw c.from_residual.ensures (stopped (sym c.is_empty.ensures ∙ c.if-is_empty.false) c.trimmed-uids.ensures.bytes (rw c.in_err-end.was at c.put_uids.ensures))
 
-pub returns-in-Full : goal.returns-in-Full
-returns-in-Full c = stopped _ _ _ _ _ _ _ _ _ c.requires.0 c.requires.1 c.requires.3 (omega arith) _ c.trimmed_end-stop.ensures _ _ _ c.put_uids-q.ensures c.in-Full.is
+pub finish-requires : goal.finish-requires
+finish-requires c =
+    let q = rw c.in_ok-end.was at c.put_uids.ensures.bounds in
+    omega (arith, q, ap length c.trimmed-uids.ensures.bytes, length-trimmed c.args.value.now)
 
-pub returns-in-To : goal.returns-in-To
-returns-in-To c = finished _ _ _ _ _ _ _ _ _ c.requires.0 c.requires.1 c.requires.3 (omega arith) _ c.trimmed_end-stop.ensures _ _ _ _ _ _ _ c.put_uids-q.ensures c.in-To.is c.finish-e.ensures
+pub returns : goal.returns
+returns c = finished (sym c.is_empty.ensures ∙ c.if-is_empty.false) c.trimmed-uids.ensures.bytes (rw c.in_ok-end.was at c.put_uids.ensures) c.finish.ensures

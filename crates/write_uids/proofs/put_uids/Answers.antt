@@ -1,40 +1,61 @@
 -- `write_uids::put_uids` meets its contract. Each way of the loop is a law of `proofs/Turns.antt`. Assumes nothing.
-use Rattle.write_uids.proofs.Turns.{start, piece-place, stop-long, stop-full, uid-bound, done, go}
+use mathlib.Core.Path.{sym, ◌∙◌, subst}
+use Rattle.std.proofs.lemmas.List.{length_push}
+use Rattle.std.proofs.Common.{rules, tests}
+use lib.ListN.{length}
 use native.Mathlib.Omega.{arith}
+use Rattle.calendar.proofs.SplitLaws.{piece-turn, piece-end}
+use Rattle.write_uids.proofs.Turns.{Going, Marked, start, mark-place, mark, first, stop, uid-bound, go, done}
+use Rattle.write_uids.proofs.put_uids.Goals.{then-i-gt0, else-i-gt0}
 use Rattle.write_uids.proofs.put_uids.Goals as goal
 
-pub loop-a-init : goal.loop-a-init
-loop-a-init c = start c.args.s.now c.args.from c.args.stop c.args.root.now c.args.ledger.now c.args.used c.args.out.now c.args.pos c.requires.0 c.requires.3
+pub loop-i-init : goal.loop-i-init
+loop-i-init c = start _ _ _ _ _ _ c.requires.1
 
-pub piece_end-b-requires : goal.piece_end-b-requires
-piece_end-b-requires c = omega (arith, c.loop-a.invariant.hi, c.requires.1)
+pub overflow_add-place : goal.overflow_add-place
+overflow_add-place c =
+    let t = piece-turn c.into_iter-i-iterator.result c.args.uids.now (cc) (cc) (cc)
+    c.loop-i.yielded _ c.loop-i.yielded_by _ _ c.in-Some.i c.in-Some.uid c.in-Some.is c.next.ensures.steps (λ x b q k. search (rules, tests)) in
+    omega (arith, mark-place c.loop-i.invariant t.0, c.requires)
 
-pub overflow_sub-b : goal.overflow_sub-b
-overflow_sub-b c = (piece-place _ _ _ _ _ _ _ _ c.requires.1 _ _ _ _ _ _ c.loop-a.invariant c.piece_end-b.ensures).0
+pub returns-in_err-slot : goal.returns-in_err-slot
+returns-in_err-slot c =
+    let a = c.args in
+    let t = piece-turn c.into_iter-i-iterator.result a.uids.now (cc) (cc) (cc)
+    c.loop-i.yielded _ c.loop-i.yielded_by _ _ c.in-Some.i c.in-Some.uid c.in-Some.is c.next.ensures.steps (λ x b q k. search (rules, tests)) in
+    let g = c.loop-i.invariant in
+    let m : Marked a.uids.now a.root.now a.ledger.now a.used a.out.now a.pos c.loop-i.ledger c.if-i-gt0.out (length c.loop-i.yielded) c.if-i-gt0.place c.loop-i.count = elim c.if-i-gt0.branch [
+      | then-i-gt0 w ↦ mark g (omega (arith, t.1, w.if-i-gt0.true)) c.in-Some.uid.now t.0 t.2 w.place-is (w.out-is ∙ w.put.ensures)
+      | else-i-gt0 w ↦ first g (omega (arith, t.1, w.if-i-gt0.false)) w.place-is w.out-is
+    ] in
+    rw c.from_residual.ensures (stop m t.0 t.2 c.slot_of.ensures c.in_err-slot.was)
 
-pub returns-then-b-a-gt-SLOT_SIZE : goal.returns-then-b-a-gt-SLOT_SIZE
-returns-then-b-a-gt-SLOT_SIZE c = stop-long _ _ _ _ _ _ _ _ c.requires.1 _ _ _ _ _ _ c.loop-a.invariant c.piece_end-b.ensures c.if-b-a-gt-SLOT_SIZE.true
+pub put_uid-place-requires : goal.put_uid-place-requires
+put_uid-place-requires c =
+    let a = c.args in
+    let t = piece-turn c.into_iter-i-iterator.result a.uids.now (cc) (cc) (cc)
+    c.loop-i.yielded _ c.loop-i.yielded_by _ _ c.in-Some.i c.in-Some.uid c.in-Some.is c.next.ensures.steps (λ x b q k. search (rules, tests)) in
+    let g = c.loop-i.invariant in
+    let m : Marked a.uids.now a.root.now a.ledger.now a.used a.out.now a.pos c.loop-i.ledger c.if-i-gt0.out (length c.loop-i.yielded) c.if-i-gt0.place c.loop-i.count = elim c.if-i-gt0.branch [
+      | then-i-gt0 w ↦ mark g (omega (arith, t.1, w.if-i-gt0.true)) c.in-Some.uid.now t.0 t.2 w.place-is (w.out-is ∙ w.put.ensures)
+      | else-i-gt0 w ↦ first g (omega (arith, t.1, w.if-i-gt0.false)) w.place-is w.out-is
+    ] in
+    omega (arith, uid-bound m t.0 t.2 c.slot_of.ensures c.in_ok-slot.was c.requires.0, c.requires)
 
-pub slot_of-q-requires : goal.slot_of-q-requires
-slot_of-q-requires c = omega (arith, c.loop-a.invariant.room, c.loop-a.invariant.ledger_size, piece-place _ _ _ _ _ _ _ _ c.requires.1 _ _ _ _ _ _ c.loop-a.invariant c.piece_end-b.ensures, c.requires.1, c.if-b-a-gt-SLOT_SIZE.false)
+pub loop-i-preserved : goal.loop-i-preserved
+loop-i-preserved c =
+    let a = c.args in
+    let t = piece-turn c.into_iter-i-iterator.result a.uids.now (cc) (cc) (cc)
+    c.loop-i.yielded _ c.loop-i.yielded_by _ _ c.in-Some.i c.in-Some.uid c.in-Some.is c.next.ensures.steps (λ x b q k. search (rules, tests)) in
+    let g = c.loop-i.invariant in
+    let m : Marked a.uids.now a.root.now a.ledger.now a.used a.out.now a.pos c.loop-i.ledger c.if-i-gt0.out (length c.loop-i.yielded) c.if-i-gt0.place c.loop-i.count = elim c.if-i-gt0.branch [
+      | then-i-gt0 w ↦ mark g (omega (arith, t.1, w.if-i-gt0.true)) c.in-Some.uid.now t.0 t.2 w.place-is (w.out-is ∙ w.put.ensures)
+      | else-i-gt0 w ↦ first g (omega (arith, t.1, w.if-i-gt0.false)) w.place-is w.out-is
+    ] in
+    subst (λ k. Going a.uids.now a.root.now a.ledger.now a.used a.out.now a.pos c.slot_of.new.ledger c.put_uid-place.new.out k c.put_uid-place.result c.in_ok-slot.slot.used)
+    (sym (length_push c.loop-i.yielded _)) (go m t.0 t.2 c.slot_of.ensures c.in_ok-slot.was c.requires.0 c.put_uid-place.ensures)
 
-pub returns-in-Full : goal.returns-in-Full
-returns-in-Full c = stop-full _ _ _ _ _ _ _ _ c.requires.1 _ _ _ _ _ _ c.loop-a.invariant c.piece_end-b.ensures c.if-b-a-gt-SLOT_SIZE.false _ _ c.slot_of-q.ensures c.in-Full.is
-
-pub put_uid-e-requires : goal.put_uid-e-requires
-put_uid-e-requires c = omega (arith, uid-bound _ _ _ _ _ _ _ _ c.requires.1 _ _ _ _ _ _ c.loop-a.invariant c.piece_end-b.ensures c.if-b-a-gt-SLOT_SIZE.false _ _ c.slot_of-q.ensures c.requires.2 _ _ c.in-At.is, c.loop-a.invariant.bound, c.loop-a.invariant.hi, c.requires.4)
-
-pub returns-then-b-stop : goal.returns-then-b-stop
-returns-then-b-stop c = done _ _ _ _ _ _ _ _ c.requires.1 _ _ _ _ _ _ c.loop-a.invariant c.piece_end-b.ensures c.if-b-a-gt-SLOT_SIZE.false _ _ c.slot_of-q.ensures c.requires.2 _ _ c.in-At.is _ _ c.put_uid-e.ensures c.if-b-stop.true
-
-pub overflow_add-a : goal.overflow_add-a
-overflow_add-a c = omega (arith, piece-place _ _ _ _ _ _ _ _ c.requires.1 _ _ _ _ _ _ c.loop-a.invariant c.piece_end-b.ensures, c.requires.1)
-
-pub overflow_add-p : goal.overflow_add-p
-overflow_add-p c = omega (arith, c.put_uid-e.ensures.0, uid-bound _ _ _ _ _ _ _ _ c.requires.1 _ _ _ _ _ _ c.loop-a.invariant c.piece_end-b.ensures c.if-b-a-gt-SLOT_SIZE.false _ _ c.slot_of-q.ensures c.requires.2 _ _ c.in-At.is, c.loop-a.invariant.bound, c.loop-a.invariant.hi, c.loop-a.invariant.lo, c.requires.4)
-
-pub loop-a-smaller : goal.loop-a-smaller
-loop-a-smaller c = omega (arith, piece-place _ _ _ _ _ _ _ _ c.requires.1 _ _ _ _ _ _ c.loop-a.invariant c.piece_end-b.ensures, c.loop-a.invariant.hi, c.if-b-stop.false)
-
-pub loop-a-preserved : goal.loop-a-preserved
-loop-a-preserved c = go _ _ _ _ _ _ _ _ c.requires.1 _ _ _ _ _ _ c.loop-a.invariant c.piece_end-b.ensures c.if-b-a-gt-SLOT_SIZE.false _ _ c.slot_of-q.ensures c.requires.2 _ _ c.in-At.is _ _ c.put_uid-e.ensures (omega (arith, c.if-b-stop.false, piece-place _ _ _ _ _ _ _ _ c.requires.1 _ _ _ _ _ _ c.loop-a.invariant c.piece_end-b.ensures)) _ c.put.ensures
+pub returns : goal.returns
+returns c =
+    done c.loop-i.invariant (piece-end c.into_iter-i-iterator.result c.args.uids.now (cc) (cc) (cc)
+    c.loop-i.yielded _ c.loop-i.yielded_by _ _ c.in-None.is c.next.ensures.steps (λ x b q k. search (rules, tests)))

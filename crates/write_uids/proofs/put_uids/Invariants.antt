@@ -1,10 +1,7 @@
--- What the loop of `write_uids::put_uids` keeps, and what falls at each turn.
-use Prim.Native.Nat.{◌-◌}
+-- What the loop of `write_uids::put_uids` keeps: the new UIDs of the pieces so far are written.
+use lib.ListN.{length}
 use Rattle.write_uids.proofs.Turns.{Going}
 use Rattle.write_uids.proofs.put_uids.Given as goal
 
-abbrev pub invariant-loop-a : goal.invariant-loop-a
-invariant-loop-a l = Going l.s l.from l.stop l.root l.initial.ledger l.used l.initial.out l.pos l.ledger l.out l.a l.p l.n
-
-abbrev pub decreases-loop-a : goal.decreases-loop-a
-decreases-loop-a l = l.stop - l.a
+abbrev pub invariant-loop-i : goal.invariant-loop-i
+invariant-loop-i l = Going l.uids l.root l.initial.ledger l.used l.initial.out l.pos l.ledger l.out (length l.yielded) l.place l.count

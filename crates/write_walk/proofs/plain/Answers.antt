@@ -10,11 +10,11 @@ use Rattle.write_walk.proofs.plain.Goals as goal
 
 pub act-requires : goal.act-requires
 act-requires c =
-    let short = gained-length (is_top c.args.at.level) c.args.n.options c.args.at.low (c.args.e.tag + 1) in (
-      c.requires.2,
-      c.requires.3,
-      record { root_fits = c.requires.4.root_fits; slots_fit = omega (arith, ap (λ v. v.used) c.gain_before-t.ensures.0, c.requires.4.slots_fit); room = omega (arith, short, ap (λ v. v.pos) c.gain_before-t.ensures.0, c.requires.4.room) },
-      record { countable = omega (arith, ap met c.gain_before-t.ensures.0, c.requires.5.countable) },
+    let short = gained-length (is_top c.args.at.level) c.args.rules.numbers.options c.args.at.low (c.args.e.tag + 1) in (
+      c.requires.rises,
+      c.requires.in_s,
+      record { root_fits = c.requires.ready.root_fits; slots_fit = omega (arith, ap (λ v. v.used) c.gain_before-t.ensures.0, c.requires.ready.slots_fit); room = omega (arith, short, ap (λ v. v.pos) c.gain_before-t.ensures.0, c.requires.ready.room) },
+      record { countable = omega (arith, ap met c.gain_before-t.ensures.0, c.requires.countable.countable) },
     )
 
 pub returns : goal.returns
