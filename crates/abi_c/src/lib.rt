@@ -1,5 +1,6 @@
 // The static library that C links (include/corravisk.h): each export calls the function of the crate abi that has its name, and states
-// that function's clauses again, word for word (tools/check-docs compares them).
+// that function's clauses again, word for word (tools/check-docs compares them). They stand twice, since an export has to stand in the static
+// library's own crate, and a crate is a library or a static library and not both (docs/DECISIONS.md, B42).
 #![tactic(auto)]
 
 ghost use Rattle.std.specs.Prelude.{◌≡◌, length};

@@ -233,7 +233,7 @@ fn digit(n: u32) -> u8
     b'0' + (n % 10) as u8
 }
 
-// The date `d` in eight digits.
+// The date `d` in eight digits. No `write!`: that goes through a text and a Result, and gives a year past 9999 more than four digits.
 fn put_date(d: Date, out: &mut [u8], pos: usize)
     requires { pos + date_length < 2 ^ 64 }
     ensures { out.new ≡ laid out.old pos (date_text d) }

@@ -66,8 +66,8 @@ pub const LONGITUDINAL_TIME: u64 = 0x0028_0303;
 
 const OPTION_COUNT: u64 = 6;
 
-// The whole table, to be made once and lent. It is lent as a slice: `row_of` and `action_of`, which the documents name, may take no narrower
-// type than they took.
+// The whole table, to be made once and lent. It is lent as a slice: a struct for the rows and the fact that they are the table would be one
+// more type in contracts that the documents name, and each caller would have to make it.
 pub fn rows() -> [u64; e1_1::COUNT]
     ensures { result ≡ table }
 {

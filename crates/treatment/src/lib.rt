@@ -15,7 +15,7 @@ pub struct SettingNumbers {
 }
 
 // The settings that are texts, as they are lent: the root of new UIDs, and the study's replacement list and the site's. They too go down
-// unchanged.
+// unchanged. They are no part of `Rules` or of `SettingNumbers`: what judges values takes those, and no texts.
 #[derive(Clone, Copy)]
 pub struct SettingTexts<'a> {
     pub root: &'a [u8],

@@ -27,8 +27,8 @@ fn find_non_digit(v: &[u8]) -> Option<usize>
     v.iter().position(|x| !x.is_ascii_digit())
 }
 
-// How many bytes at the front of `v` are a component; 0 where none are. A zero is a whole one, so whatever follows it but a dot is
-// found to be wrong by the caller.
+// How many bytes at the front of `v` are a component; 0 where none are, as `Scan.lead` has it. A zero is a whole one, so whatever follows it
+// but a dot is found to be wrong by the caller.
 fn component_len(v: &[u8]) -> usize
     ensures { result ≡ lead v.now }
 {
@@ -38,8 +38,8 @@ fn component_len(v: &[u8]) -> usize
     find_non_digit(v).unwrap_or(v.len())
 }
 
-// How long the first piece of `v` is, if it is made of components with dots between them; else 0. One loop over the bytes: pieces that
-// are split off first would be looked at again for their components.
+// How long the first piece of `v` is, if it is made of components with dots between them; else 0, which is the length of no UID, as
+// `Scan.uid_span` has it. One loop over the bytes: pieces that are split off first would be looked at again for their components.
 fn uid_len(v: &[u8]) -> usize
     ensures { result ≡ uid_span v.now }
 {
@@ -120,7 +120,8 @@ pub fn uids_fault(value: &[u8]) -> bool
     true
 }
 
-// A number in decimal at `pos`; the place past it. It calls itself once for each digit but the last.
+// A number in decimal at `pos`; the place past it. It calls itself once for each digit but the last. No `write!`: that makes a text first, and
+// each byte of it is then written once more.
 pub fn put_decimal(n: usize, out: &mut [u8], pos: usize) -> usize
     requires { pos + length (decimal n) < 2 ^ 64 }
     ensures { Puts (decimal n) out.old pos out.new result }
