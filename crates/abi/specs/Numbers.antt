@@ -5,7 +5,7 @@
 --     level_meant n       the level that the number means: 1 is the top
 --     action_numbers      the one number of `corravisk_action`: the fate of an element by the option number, its level (1 is the top), tag and VR
 use Rattle.std.specs.Prelude.{List, [], ◌∷◌, ℕ, eqb, Option, Result}
-use Rattle.std.specs.declared.ops.Range.{Range}
+use Rattle.view.specs.declared.Part.{Part}
 use Rattle.basis.specs.Choice.{pick}
 use Rattle.refusals.specs.declared.Fault.{Fault}
 use Rattle.view.specs.View.{refusal_of, offset_of, found_of, start_of, length_of}
@@ -16,7 +16,7 @@ use Rattle.treatment.specs.declared.Level.TheVariants.{Top, Inner}
 use Rattle.treatment.specs.declared.Fate.{Fate}
 use Rattle.treatment.specs.declared.Fate.TheVariants.{Removed, Kept, Walked, Emptied, Dummied, Renamed, Shifted, Wrong}
 
-abbrev pub view_numbers : Result (Option (Range ℕ)) Fault → List ℕ
+abbrev pub view_numbers : Result (Option Part) Fault → List ℕ
 view_numbers a = refusal_of a ∷ offset_of a ∷ found_of a ∷ start_of a ∷ length_of a ∷ []
 
 abbrev pub report_numbers : Report → List ℕ

@@ -5,7 +5,7 @@ use mathlib.Core.List.{List, [], ◌∷◌, ◌++◌}
 use Prim.Native.Nat.{ℕ, zero, suc, ◌+◌, ◌-◌, ◌≤◌, ◌<◌}
 use native.Mathlib.Omega.{arith}
 use lib.ListN.{length, take, drop, get_or, set, replicate, length-drop, length-replicate}
-use lib.Seq.{take_all, length-take-le}
+use lib.Seq.{take-suc, take_all, length-take-le}
 use Prim.Native.Nat.{min}
 use borrow.Rule.Slice.PartMut.{mid_of, put_mid}
 use Rattle.buffer.specs.Buffer.{laid, cleared}
@@ -144,6 +144,16 @@ unfolding cleared
 cleared-past [] p h = refl
 cleared-past (y ∷ o) (suc p) h = ap (λ l. y ∷ l) (cleared-past o p (omega arith))
 cleared-past (y ∷ o) zero h = absurd (omega arith)
+
+-- one byte more of a block
+pub block-more : (o xs : List ℕ) (p i : ℕ) → i < length xs → p + i < length o → set (laid o p (take i xs)) (p + i) (get_or xs i 0) ≡ laid o p (take (i + 1) xs)
+block-more o xs p i h k =
+    let n : suc i ≡ i + 1 = omega arith in
+    let m : length (take i xs) ≡ i = length-take-le i xs (omega arith) in
+    laid-set (laid o p (take i xs)) (p + i) (get_or xs i 0) (rw (length-laid o p (take i xs)) k)
+    ∙ ap (λ n. laid (laid o p (take i xs)) (p + n) (get_or xs i 0 ∷ [])) (sym m)
+    ∙ laid-laid o p (take i xs) (get_or xs i 0 ∷ [])
+    ∙ ap (laid o p) (sym (take-suc xs i 0 h) ∙ ap (λ n. take n xs) n)
 
 -- ... by the part of it, k bytes from p on, in one piece
 pub laid-part : (o : List ℕ) (p k : ℕ) (xs ys : List ℕ) → p + k ≤ length o → k ≡ length xs → ys ≡ xs → put_mid p k o ys ≡ laid o p xs

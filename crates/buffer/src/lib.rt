@@ -14,22 +14,30 @@ pub fn put(out: &mut [u8], pos: usize, x: u8)
     }
 }
 
-// All of `bytes` at `pos`, where there is room for them.
+// All of `bytes` at `pos`, where there is room for them. A loop, which compiles to C's memcpy: std's `copy_from_slice` would ask C for
+// memmove as well, and nothing but memcpy and memset is to be trusted.
 pub fn copy(bytes: &[u8], out: &mut [u8], pos: usize)
     requires { pos + length bytes.now ≤ length out.old }
     ensures { out.new ≡ laid out.old pos bytes.now }
 {
-    out[pos..pos + bytes.len()].copy_from_slice(bytes);
+    for i in 0..bytes.len() {
+        out[pos + i] = bytes[i];
+    }
 }
 
-// As much of `bytes` as there is room for at `pos`; the place past all of them.
+// As much of `bytes` as there is room for at `pos`; the place past all of them. Where there is room for all, as nearly always, they are
+// copied as they come: of a mark or a header the compiler then knows how many they are, and writes them in one go.
 pub fn copy_block(bytes: &[u8], out: &mut [u8], pos: usize) -> usize
     requires { pos + length bytes.now < 2 ^ 64 }
     ensures { Puts bytes.now out.old pos out.new result }
 {
     if pos < out.len() {
-        let fits = bytes.len().min(out.len() - pos);
-        copy(&bytes[..fits], out, pos);
+        let room = out.len() - pos;
+        if bytes.len() <= room {
+            copy(bytes, out, pos);
+        } else {
+            copy(&bytes[..room], out, pos);
+        }
     }
     pos + bytes.len()
 }

@@ -1,46 +1,82 @@
--- What `date_fault` finds among the pieces of a value. No contract cites this file. Assumes nothing.
---     fault-none       an empty value is not refused
---     fault-is         another is refused where the date of one of its pieces can't be moved
+-- The loop of `date_fault`. No contract cites this file. Assumes nothing.
+--     judge-nothing        an empty value
+--     Judging              what is known where a piece begins: the value is refused exactly where one of the pieces left is
+--     judge-start          it is known at the first piece
+--     judge-cut            where the piece ends
+--     judge-bad, judge-last, judge-on    its date can't be moved; it can, and the piece is the last, or it is not
 use mathlib.Core.Path.{◌≡◌, refl, sym, ap, ◌∙◌}
-use mathlib.Core.Bool.{Bool, true, false, not, ◌&&◌, ◌||◌}
+use mathlib.Core.Bool.{Bool, true, false, not, ◌&&◌}
 use Rattle.std.specs.Prelude.{Option, None, Some}
-use Rattle.std.specs.List.{list_any, slice_split}
+use Rattle.std.specs.Option.{is_some as found}
 use mathlib.Core.List.{List, [], ◌∷◌}
-use Prim.Native.Nat.{ℕ}
+use Prim.Native.Nat.{ℕ, ◌+◌, ◌≤◌, ◌<◌}
 use native.Mathlib.Omega.{arith}
-use borrow.Author.Tests.{eqb-true, eqb-false}
 use lib.IntN.{ℤ}
-use lib.Dec.{eqb}
-use lib.ListN.{length, take}
+use lib.ListN.{length}
 use Rattle.basis.specs.Choice.{fork, is_some, is_none}
-use Rattle.basis.specs.Pieces.{backslash}
+use Rattle.basis.specs.Bytes.{part}
+use Rattle.basis.specs.Pieces.{pieces, piece_end}
+use Rattle.basis.proofs.PieceEndLaws.{PieceEnd, piece_end-is}
 use Rattle.calendar.specs.Text.{moved_date}
 use Rattle.calendar.specs.Values.{dates_end, date_pieces, shifted_text, all_move, shifted_value}
 use Rattle.calendar.specs.declared.Date.{Date}
-use Rattle.calendar.proofs.SplitLaws.{split-pieces}
-use Rattle.calendar.proofs.ValuesLaws.{shifted_value-nil}
+use Rattle.calendar.proofs.ValuesLaws.{dates-upto, dates-take, shifted_value-nil}
 
-some-none : (da : Bool) (days : ℤ) (us : List (List ℕ)) → list_any (λ u. is_none (moved_date da days u)) us ≡ not (all_move da days us)
-unfolding all_move
-some-none da days [] = refl
-some-none da days (u ∷ us) = rw (some-none da days us) (step (moved_date da days u))
-  where
-    step : (o : Option Date) → (is_none o || not (all_move da days us)) ≡ not (is_some o && all_move da days us)
-    step None = refl
-    step (Some d) = refl
+pub judge-nothing : (da : Bool) (v : List ℕ) (days : ℤ) → length v ≡ 0 → false ≡ is_none (shifted_value da days v)
+judge-nothing da [] days e = sym (ap is_none (shifted_value-nil da days))
+judge-nothing da (x ∷ v) days e = absurd (omega arith)
 
-pub fault-none : (da : Bool) (days : ℤ) (v : List ℕ) → eqb (length v) 0 ≡ true → false ≡ is_none (shifted_value da days v)
-fault-none da days [] e = sym (ap is_none (shifted_value-nil da days))
-fault-none da days (x ∷ v) e = absurd (omega (arith, eqb-true _ _ e))
-
-pub fault-is : (da : Bool) (days : ℤ) (v : List ℕ) → eqb (length v) 0 ≡ false
-    → list_any (λ u. is_none (moved_date da days u)) (slice_split (λ x. eqb x backslash) (take (dates_end da v) v)) ≡ is_none (shifted_value da days v)
+refused-is : (da : Bool) (days : ℤ) (v : List ℕ) → 0 < length v → is_none (shifted_value da days v) ≡ not (all_move da days (date_pieces da v))
 unfolding shifted_value
-fault-is da days [] e = absurd (eqb-false 0 0 e refl)
-fault-is da days (x ∷ v) e =
-    ap (list_any (λ u. is_none (moved_date da days u))) (split-pieces (take (dates_end da (x ∷ v)) (x ∷ v)))
-    ∙ some-none da days (date_pieces da (x ∷ v)) ∙ step (all_move da days (date_pieces da (x ∷ v)))
+refused-is da days [] l = absurd (omega arith)
+refused-is da days (x ∷ v) l = go (all_move da days (date_pieces da (x ∷ v)))
   where
-    step : (b : Bool) → not b ≡ is_none (fork b (λ _. Some (shifted_text da days (x ∷ v))) (λ _. None))
-    step true = refl
-    step false = refl
+    go : (b : Bool) → is_none (fork b (λ _. Some (shifted_text da days (x ∷ v))) (λ _. None)) ≡ not b
+    go true = refl
+    go false = refl
+
+-- the test of `Choice` and std's are one
+found-is : (o : Option Date) → is_some o ≡ found o
+found-is None = refl
+found-is (Some d) = refl
+
+pub record Judging (da : Bool) (v : List ℕ) (days : ℤ) (stop a : ℕ) : Type 0 where
+  pub hi : a ≤ stop
+  pub upto : stop ≤ length v
+  pub left : is_none (shifted_value da days v) ≡ not (all_move da days (pieces (part v a stop)))
+
+pub judge-start : (da : Bool) (v : List ℕ) (days : ℤ) {stop : ℕ} → 0 < length v → stop ≡ dates_end da v → Judging da v days stop 0
+judge-start da v days {stop} l e = record {
+  hi = omega arith;
+  upto = dates-upto da v stop e;
+  left = refused-is da days v l ∙ ap (λ u. not (all_move da days (pieces u))) (dates-take da v stop e);
+}
+
+module _ {da : Bool} {v : List ℕ} {days : ℤ} {stop a b : ℕ} (g : Judging da v days stop a) (e : b ≡ piece_end v a stop) where
+  pub judge-cut : PieceEnd v a stop b
+  judge-cut = piece_end-is v a stop g.hi g.upto b e
+
+  module _ {o : Option Date} (m : o ≡ moved_date da days (part v a b)) where
+    left-is : is_none (shifted_value da days v) ≡ not (found o && all_move da days judge-cut.others)
+    unfolding all_move
+    left-is =
+        g.left ∙ ap (λ us. not (all_move da days us)) judge-cut.cut
+        ∙ ap (λ t. not (t && all_move da days judge-cut.others)) (ap is_some (sym m) ∙ found-is o)
+
+    pub judge-bad : found o ≡ false → true ≡ is_none (shifted_value da days v)
+    judge-bad f = sym (left-is ∙ ap (λ t. not (t && all_move da days judge-cut.others)) f)
+
+    module _ (f : found o ≡ true) where
+      left-others : is_none (shifted_value da days v) ≡ not (all_move da days judge-cut.others)
+      left-others = left-is ∙ ap (λ t. not (t && all_move da days judge-cut.others)) f
+
+      pub judge-last : b ≡ stop → false ≡ is_none (shifted_value da days v)
+      unfolding all_move
+      judge-last at = sym (left-others ∙ ap (λ us. not (all_move da days us)) (judge-cut.last at))
+
+      pub judge-on : b < stop → Judging da v days stop (b + 1)
+      judge-on l = record {
+        hi = omega arith;
+        upto = g.upto;
+        left = left-others ∙ ap (λ us. not (all_move da days us)) (judge-cut.more l);
+      }

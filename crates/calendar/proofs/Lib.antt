@@ -3,7 +3,6 @@ pub mod Closed
 pub mod DatesLaws
 pub mod TextLaws
 pub mod ValuesLaws
-pub mod SplitLaws
 pub mod Judging
 pub mod Writing
 pub mod Cases

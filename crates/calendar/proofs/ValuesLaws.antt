@@ -1,5 +1,6 @@
 -- Laws of `specs/Values.antt`. No contract cites this file. Assumes nothing.
 --     dates_end-le             the dates end in the value
+--     dates-upto, dates-take, dates-drop    the dates and the pad of a value, by the place where the dates end
 --     length-shifted_text      the text is as long as the value, whatever the value is
 --     dates_end-shifted        and its dates end at the same place, where all of them can be moved
 --     shifted_value-nil        an empty value stays empty
@@ -21,10 +22,11 @@ use Prim.Native.Nat.{ℕ, suc, ◌-◌, ◌%◌, ◌≤◌, ◌<◌}
 use native.Mathlib.Omega.{arith}
 use lib.Dec.{eqb}
 use lib.IntN.{ℤ, pos, neg_ℤ}
-use lib.ListN.{length, take, drop, get_or, length-append, take-append-drop}
-use lib.Seq.{length-take-le, take_at, drop_at, get_or_at, drop-length, drop-cons}
+use lib.ListN.{length, take, drop, get_or, length-append, length-drop, take-append-drop}
+use lib.Seq.{take_all, length-take-le, take_at, drop_at, get_or_at, drop-length, drop-cons}
 use borrow.Author.Tests.{eqb-true, eq-eqb, ne_eqb}
 use Rattle.basis.specs.Choice.{pick, fork, is_some, is_none}
+use Rattle.basis.specs.Bytes.{part}
 use Rattle.basis.specs.Pieces.{backslash, pieces, after, joined}
 use Rattle.basis.proofs.PiecesLaws.{Free, FreeAll, free-append, free-get_or, pieces-some, pieces-free, joined-pieces, pieces-joined}
 use Rattle.calendar.specs.Text.{moved_date, shifted_piece}
@@ -40,6 +42,17 @@ dates_end-le da v = go (padded da v)
     go : (b : Bool) → pick b (length v - 1) (length v) ≤ length v
     go true = omega arith
     go false = omega arith
+
+-- the dates and the pad of a value, by the place where the dates end
+module _ (da : Bool) (v : List ℕ) (stop : ℕ) (e : stop ≡ dates_end da v) where
+  pub dates-upto : stop ≤ length v
+  dates-upto = omega (arith, e, dates_end-le da v)
+
+  pub dates-take : take (dates_end da v) v ≡ part v 0 stop
+  dates-take = let n : dates_end da v ≡ stop - 0 = omega (arith, e) in ap (λ k. take k v) n
+
+  pub dates-drop : drop (dates_end da v) v ≡ part v stop (length v)
+  dates-drop = ap (λ k. drop k v) (sym e) ∙ sym (take_all (length v - stop) (drop stop v) (omega (arith, length-drop stop v)))
 
 pub length-dates : (da : Bool) (v : List ℕ) → length (take (dates_end da v) v) ≡ dates_end da v
 length-dates da v = length-take-le (dates_end da v) v (dates_end-le da v)

@@ -1,159 +1,146 @@
--- The pieces that `put_shifted` writes, one after another, and a piece that `put_piece` writes. No contract cites this file. Assumes nothing.
---     put-moved                  a piece whose date can be moved is written with the other date
---     rest-all                   a slice from a place to the end has all that follows
---     front da days v k          the text of the first k pieces of the value v
---     Writing                    what is known where a piece begins: the pieces before it are written
---     Marked                     what is known before the piece itself: so is the backslash before it
---     write-start                it is known at the first piece
---     write-mark, write-first    the backslash is written; the first piece has none
---     write-place, write-on      there is a place for the piece; it is written
---     write-room, write-last     there is no piece left: there is a place for the pad; it is written
+-- The loop of `put_shifted`, and the ways through `put_piece`. No contract cites this file. Assumes nothing.
+--     put-same, put-moved      the ways out of `put_piece`; `put-long`: a piece whose date can be moved has room for one
+--     rest-all                 a slice from a place to the end has all that follows
+--     Writing                  what is known where a piece begins: what is written, and that the pieces left make it whole
+--     write-start              it is known at the first piece
+--     write-cut, write-end     where the piece ends, and its text
+--     write-next, write-size   the place of the next piece is no more than that past all; the buffer's length
+--     write-last, write-on     the piece is the last, or it is not
 use mathlib.Core.Path.{◌≡◌, refl, sym, ap, ap₂, ◌∙◌}
 use mathlib.Core.Bool.{Bool}
-use Rattle.std.specs.Prelude.{Option, Some}
-use Rattle.std.proofs.lemmas.List.{take_more, get_or-map, length-map}
-use mathlib.Core.List.{List, [], ◌∷◌, ◌++◌, map, append_assoc, append-nil}
-use Prim.Native.Nat.{ℕ, zero, suc, ◌+◌, ◌-◌, ◌≤◌, ◌<◌}
+use Rattle.std.specs.Prelude.{Option, None, Some}
+use mathlib.Core.List.{List, [], ◌∷◌, ◌++◌, map, append_assoc}
+use Prim.Native.Nat.{ℕ, ◌+◌, ◌-◌, ◌≤◌, ◌<◌}
 use native.Mathlib.Omega.{arith}
 use lib.IntN.{ℤ}
-use lib.ListN.{length, take, drop, get_or, length-append, length-drop}
-use lib.Seq.{length-take-le, take-length}
-use Rattle.basis.specs.Pieces.{backslash, after, joined}
+use lib.ListN.{length, take, drop, length-append, length-drop}
+use lib.Seq.{take-length}
+use Rattle.basis.specs.Bytes.{part}
+use Rattle.basis.specs.Pieces.{backslash, pieces, joined, piece_end}
+use Rattle.basis.proofs.BytesLaws.{length-part}
+use Rattle.basis.proofs.PiecesLaws.{pieces-some, joined-more, joined-one}
+use Rattle.basis.proofs.PieceEndLaws.{PieceEnd, piece_end-is}
 use Rattle.buffer.specs.Buffer.{laid}
-use Rattle.buffer.proofs.Laws.{laid-none, laid-more}
+use Rattle.buffer.proofs.Laws.{laid-none, laid-more, length-laid}
 use Rattle.calendar.specs.Text.{date_length, date_text, moved_date, with_date, shifted_piece}
-use Rattle.calendar.specs.Values.{dates_end, date_pieces, shifted_text}
+use Rattle.calendar.specs.Values.{dates_end, shifted_text}
 use Rattle.calendar.specs.declared.Date.{Date}
-use Rattle.calendar.proofs.TextLaws.{length-shifted_piece}
-use Rattle.calendar.proofs.ValuesLaws.{dates_end-le, length-shifted}
+use Rattle.calendar.proofs.TextLaws.{right-long, moved-date-is, length-shifted_piece}
+use Rattle.calendar.proofs.ValuesLaws.{dates-upto, dates-take, dates-drop}
 
 -- ---- put_piece
 
-pub put-moved : (da : Bool) (days : ℤ) (u : List ℕ) {days' : ℤ} {d : Date} {r : Option Date} → days' ≡ days → r ≡ moved_date da days' u → r ≡ Some d
-    → (o : List ℕ) (pos : ℕ) {o₁ o₂ : List ℕ} → o₁ ≡ laid o pos (date_text d)
-    → o₂ ≡ laid o₁ (pos + date_length) (drop date_length u) → o₂ ≡ laid o pos (shifted_piece da days u)
-put-moved da days u {d = d} same m f o pos g h =
-    laid-more o pos (date_text d) (drop date_length u) g refl h
-    ∙ ap (λ s. laid o pos (with_date u s)) (sym f ∙ m ∙ ap (λ z. moved_date da z u) same)
+module _ (da : Bool) (days : ℤ) (u : List ℕ) {days' : ℤ} (same : days' ≡ days) {r : Option Date} (m : r ≡ moved_date da days' u) where
+  now-is : r ≡ moved_date da days u
+  now-is = m ∙ ap (λ z. moved_date da z u) same
+
+  pub put-same : r ≡ None → u ≡ shifted_piece da days u
+  put-same f = ap (with_date u) (sym f ∙ now-is)
+
+  module _ {d : Date} (f : r ≡ Some d) where
+    pub put-long : date_length ≤ length u
+    put-long = right-long da (length u) (moved-date-is da days u d (sym now-is ∙ f)).right
+
+    pub put-moved : (o : List ℕ) (pos : ℕ) {o₁ o₂ : List ℕ} → o₁ ≡ laid o pos (date_text d)
+        → o₂ ≡ laid o₁ (pos + date_length) (drop date_length u) → o₂ ≡ laid o pos (shifted_piece da days u)
+    put-moved o pos g h =
+        laid-more o pos (date_text d) (drop date_length u) g refl h
+        ∙ ap (λ s. laid o pos (with_date u s)) (sym f ∙ now-is)
 
 -- what a slice from a place to its end has
 pub rest-all : (n : ℕ) (u : List ℕ) → take (length u - n) (drop n u) ≡ drop n u
 rest-all n u = ap (λ k. take k (drop n u)) (sym (length-drop n u)) ∙ take-length (drop n u)
 
--- ---- joined
-
--- what stands before a piece that k others come before
-abbrev mark : ℕ → List ℕ
-mark zero = []
-mark (suc k) = backslash ∷ []
-
-after-next : (us : List (List ℕ)) (u : List ℕ) → after (us ++ u ∷ []) ≡ after us ++ backslash ∷ u
-unfolding after
-after-next [] u = ap (λ w. backslash ∷ w) (append-nil u)
-after-next (w ∷ us) u =
-    ap (λ z. backslash ∷ z) (ap (λ z. w ++ z) (after-next us u) ∙ sym (append_assoc w (after us) (backslash ∷ u)))
-
-joined-next : (us : List (List ℕ)) (u : List ℕ) → joined (us ++ u ∷ []) ≡ (joined us ++ mark (length us)) ++ u
-unfolding joined after
-joined-next [] u = append-nil u
-joined-next (w ∷ us) u =
-    ap (λ z. w ++ z) (after-next us u)
-    ∙ sym (append_assoc (w ++ after us) (backslash ∷ []) u ∙ append_assoc w (after us) (backslash ∷ u))
-
-after-short : (k : ℕ) (us : List (List ℕ)) → length (after (take k us)) ≤ length (after us)
-unfolding after
-after-short zero us = omega arith
-after-short (suc k) [] = omega arith
-after-short (suc k) (u ∷ us) = omega (arith, after-short k us, length-append u (after (take k us)), length-append u (after us))
-
-joined-short : (k : ℕ) (us : List (List ℕ)) → length (joined (take k us)) ≤ length (joined us)
-unfolding joined
-joined-short zero us = omega arith
-joined-short (suc k) [] = omega arith
-joined-short (suc k) (u ∷ us) = omega (arith, after-short k us, length-append u (after (take k us)), length-append u (after us))
-
 -- ---- put_shifted
 
-module _ (da : Bool) (days : ℤ) (v : List ℕ) where
-  abbrev pub front : ℕ → List ℕ
-  front k = joined (take k (map (shifted_piece da days) (date_pieces da v)))
+-- the text of the pieces from a on
+abbrev ahead : Bool → List ℕ → ℤ → ℕ → ℕ → List ℕ
+ahead da v days stop a = joined (map (shifted_piece da days) (pieces (part v a stop)))
 
-  front-short : (k : ℕ) → length (front k) ≤ dates_end da v
-  front-short k = omega (arith, joined-short k (map (shifted_piece da days) (date_pieces da v)), length-shifted da days v)
+pub record Writing (da : Bool) (v : List ℕ) (days : ℤ) (stop : ℕ) (o₀ : List ℕ) (pos : ℕ) (o : List ℕ) (a p : ℕ) : Type 0 where
+  pub hi : a ≤ stop
+  pub upto : stop ≤ length v
+  pub ends : stop ≡ dates_end da v
+  pub place : p ≡ pos + a
+  pub text : List ℕ
+  pub size : length text ≡ a
+  pub written : o ≡ laid o₀ pos text
+  pub whole : text ++ ahead da v days stop a ≡ ahead da v days stop 0
 
-  front-next : (k : ℕ) (u : List ℕ) → k < length (date_pieces da v) → u ≡ get_or (date_pieces da v) k u
-      → front (k + 1) ≡ (front k ++ mark k) ++ shifted_piece da days u
-  front-next k u h e =
-      let us : List (List ℕ) = map (shifted_piece da days) (date_pieces da v) in
-      let n : length us ≡ length (date_pieces da v) = length-map (date_pieces da v) (shifted_piece da days) in
-      ap joined (take_more us k [] (omega arith)) ∙ joined-next (take k us) (get_or us k [])
-      ∙ ap₂ (λ j w. (front k ++ mark j) ++ w) (length-take-le k us (omega arith))
-      (get_or-map (shifted_piece da days) (date_pieces da v) k u [] h ∙ ap (shifted_piece da days) (sym e))
+pub write-start : (da : Bool) (v : List ℕ) (days : ℤ) (o : List ℕ) (pos : ℕ) {stop : ℕ} → stop ≡ dates_end da v → Writing da v days stop o pos o 0 pos
+write-start da v days o pos {stop} e = record {
+  hi = omega arith;
+  upto = dates-upto da v stop e;
+  ends = e;
+  place = omega arith;
+  text = [];
+  size = omega arith;
+  written = sym (laid-none o pos);
+  whole = refl;
+}
 
-  pub record Writing (o₀ : List ℕ) (pos k at : ℕ) (o : List ℕ) : Type 0 where
-    pub place : at ≡ pos + length (front k)
-    pub written : o ≡ laid o₀ pos (front k)
+module _ {da : Bool} {v : List ℕ} {days : ℤ} {stop : ℕ} {o₀ : List ℕ} {pos : ℕ} {o : List ℕ} {a p b : ℕ}
+    (g : Writing da v days stop o₀ pos o a p) (e : b ≡ piece_end v a stop) where
+  pub write-cut : PieceEnd v a stop b
+  write-cut = piece_end-is v a stop g.hi g.upto b e
 
-  pub write-start : (o : List ℕ) (pos : ℕ) → Writing o pos 0 pos o
-  unfolding joined
-  write-start o pos = record { place = omega arith; written = sym (laid-none o pos) }
+  abbrev piece : List ℕ
+  piece = shifted_piece da days (part v a b)
 
-  pub record Marked (o₀ : List ℕ) (pos k at : ℕ) (o : List ℕ) : Type 0 where
-    pub place : at ≡ pos + length (front k ++ mark k)
-    pub written : o ≡ laid o₀ pos (front k ++ mark k)
+  module _ {o₁ : List ℕ} {q : ℕ} (w : (q ≡ p + length (part v a b)) × (o₁ ≡ laid o p piece)) where
+    pub write-end : q ≡ pos + b
+    write-end = omega (arith, w.0, g.place, write-cut.from, length-part v a b (omega (arith, write-cut.upto, g.upto)))
 
-  module _ {o₀ : List ℕ} {pos k at : ℕ} {o : List ℕ} (g : Writing o₀ pos k at o) where
-    pub write-first : k ≡ 0 → {at' : ℕ} {o' : List ℕ} → at' ≡ at → o' ≡ o → Marked o₀ pos k at' o'
-    write-first z e f =
-        let n : front k ++ mark k ≡ front k = ap (λ j. front k ++ mark j) z ∙ append-nil (front k) in
-        record { place = e ∙ g.place ∙ ap (λ w. pos + length w) (sym n); written = f ∙ g.written ∙ ap (laid o₀ pos) (sym n) }
+    pub write-next : (n : ℕ) → b < stop → pos + length v < n → q + 1 < n
+    write-next n l h = omega (arith, write-end, g.upto)
 
-    mark-is : (j : ℕ) → 0 < j → mark j ≡ backslash ∷ []
-    mark-is zero l = absurd (omega arith)
-    mark-is (suc j) l = refl
+    pub write-size : length o₁ ≡ length o₀
+    write-size = ap length w.1 ∙ length-laid o p piece ∙ ap length g.written ∙ length-laid o₀ pos g.text
 
-    pub write-mark : 0 < k → {at' : ℕ} {o' : List ℕ} → at' ≡ at + 1 → o' ≡ laid o at (backslash ∷ []) → Marked o₀ pos k at' o'
-    write-mark l e f =
-        let m : backslash ∷ [] ≡ mark k = sym (mark-is k l) in
-        record {
-          place = omega (arith, e, g.place, ap length m, length-append (front k) (mark k));
-          written = laid-more o₀ pos (front k) (mark k) g.written g.place (f ∙ ap (laid o at) m);
-        }
-
-    pub write-last : k ≡ length (date_pieces da v) → {q : ℕ} {o' : List ℕ} → (q ≡ at + length (drop (dates_end da v) v)) × (o' ≡ laid o at (drop (dates_end da v) v))
-        → (q ≡ pos + length v) × (o' ≡ laid o₀ pos (shifted_text da days v))
-    unfolding shifted_text
-    write-last z {q} {o'} w =
-        let us : List (List ℕ) = map (shifted_piece da days) (date_pieces da v) in
-        let n : k ≡ length us = z ∙ sym (length-map (date_pieces da v) (shifted_piece da days)) in
-        let e : front k ≡ joined us = ap joined (ap (λ j. take j us) n ∙ take-length us) in (
-          omega (arith, w.0, g.place, ap length e, length-shifted da days v, dates_end-le da v, length-drop (dates_end da v) v),
-          laid-more o₀ pos (front k) (drop (dates_end da v) v) g.written g.place w.1
-              ∙ ap (λ z. laid o₀ pos (z ++ drop (dates_end da v) v)) e,
-        )
-
-    pub write-room : at + length (drop (dates_end da v) v) ≤ pos + length v
-    write-room = omega (arith, g.place, front-short k, dates_end-le da v, length-drop (dates_end da v) v)
-
-  module _ {o₀ : List ℕ} {pos k at : ℕ} {o : List ℕ} (g : Marked o₀ pos k at o) {u : List ℕ}
-      (h : k < length (date_pieces da v)) (e : u ≡ get_or (date_pieces da v) k u) where
-    length-next : pos + length (front (k + 1)) ≡ at + length u
-    length-next =
+    size-more : length (g.text ++ piece) ≡ b
+    size-more =
         omega (
           arith,
-          g.place,
-          ap length (front-next k u h e),
-          length-append (front k ++ mark k) (shifted_piece da days u),
-          length-shifted_piece da days u,
+          g.size,
+          write-cut.from,
+          length-append g.text piece,
+          length-shifted_piece da days (part v a b),
+          length-part v a b (omega (arith, write-cut.upto, g.upto)),
         )
 
-    pub write-place : at + length u ≤ pos + length v
-    write-place = omega (arith, length-next, front-short (k + 1), dates_end-le da v)
+    written-more : o₁ ≡ laid o₀ pos (g.text ++ piece)
+    written-more = laid-more o₀ pos g.text piece g.written (omega (arith, g.place, g.size)) w.1
 
-    pub write-on : {q : ℕ} {o' : List ℕ} → (q ≡ at + length u) × (o' ≡ laid o at (shifted_piece da days u)) → Writing o₀ pos (k + 1) q o'
-    write-on w = record {
-      place = w.0 ∙ sym length-next;
-      written =
-          laid-more o₀ pos (front k ++ mark k) (shifted_piece da days u) g.written g.place w.1
-          ∙ ap (laid o₀ pos) (sym (front-next k u h e));
+    -- what was to be written where the piece began
+    whole-is : (us : List (List ℕ)) → write-cut.others ≡ us → g.text ++ joined (piece ∷ map (shifted_piece da days) us) ≡ ahead da v days stop 0
+    whole-is us f =
+        ap (λ z. g.text ++ joined (map (shifted_piece da days) z)) (sym (write-cut.cut ∙ ap (λ z. part v a b ∷ z) f)) ∙ g.whole
+
+    pub write-last : {o₂ : List ℕ} → b ≡ stop → o₂ ≡ laid o₁ q (part v stop (length v)) → o₂ ≡ laid o₀ pos (shifted_text da days v)
+    unfolding shifted_text
+    write-last at x =
+        laid-more o₀ pos (g.text ++ piece) (part v stop (length v)) written-more (omega (arith, size-more, write-end)) x
+        ∙ ap (laid o₀ pos)
+        (ap₂ ◌++◌ (ap (λ z. g.text ++ z) (sym (joined-one piece)) ∙ whole-is [] (write-cut.last at)
+        ∙ ap (λ u. joined (map (shifted_piece da days) (pieces u))) (sym (dates-take da v stop g.ends)))
+        (sym (dates-drop da v stop g.ends)))
+
+    pub write-on : {o₂ : List ℕ} → b < stop → o₂ ≡ laid o₁ q (backslash ∷ []) → Writing da v days stop o₀ pos o₂ (b + 1) (q + 1)
+    write-on l x = record {
+      hi = omega arith;
+      upto = g.upto;
+      ends = g.ends;
+      place = omega (arith, write-end);
+      text = (g.text ++ piece) ++ backslash ∷ [];
+      size = omega (arith, size-more, length-append (g.text ++ piece) (backslash ∷ []));
+      written = laid-more o₀ pos (g.text ++ piece) (backslash ∷ []) written-more (omega (arith, size-more, write-end)) x;
+      whole =
+          append_assoc (g.text ++ piece) (backslash ∷ []) _ ∙ append_assoc g.text piece _
+          ∙ ap (λ z. g.text ++ z) (sym (next piece (pieces (part v (b + 1) stop)) (pieces-some (part v (b + 1) stop))))
+          ∙ whole-is (pieces (part v (b + 1) stop)) (write-cut.more l);
     }
+      where
+        next : (u : List ℕ) (us : List (List ℕ)) → 0 < length us
+            → joined (u ∷ map (shifted_piece da days) us) ≡ u ++ backslash ∷ joined (map (shifted_piece da days) us)
+        next u [] l = absurd (omega arith)
+        next u (w ∷ us) l = joined-more u (shifted_piece da days w) (map (shifted_piece da days) us)

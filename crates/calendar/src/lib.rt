@@ -215,15 +215,25 @@ fn dates_end(da: bool, value: &[u8]) -> usize
     }
 }
 
-// Whether a DA or DT value is refused with 12.
+// Whether a DA or DT value is refused with 12. No `split`, here and in `put_shifted`: the promise of where a piece ends is `basis::piece_end`'s.
 pub fn date_fault(da: bool, value: &[u8], days: i32) -> bool
     ensures { result ≡ is_none (shifted_value da days value.now) }
 {
-    let dates = &value[..dates_end(da, value)];
-    !value.is_empty()
-        && dates
-            .split(|b| *b == BACKSLASH)
-            .any(|piece| moved_date(da, piece, days).is_none())
+    if value.is_empty() {
+        return false;
+    }
+    let stop = dates_end(da, value);
+    let mut from = 0;
+    loop {
+        let end = basis::piece_end(value, from, stop);
+        if moved_date(da, &value[from..end], days).is_none() {
+            return true;
+        }
+        if end == stop {
+            return false;
+        }
+        from = end + 1;
+    }
 }
 
 // The last digit of n.
@@ -269,14 +279,17 @@ pub fn put_shifted(da: bool, value: &[u8], days: i32, out: &mut [u8], pos: usize
     requires { pos + length value.now < 2 ^ 64 }
     ensures { (result ≡ pos + length value.now) × (out.new ≡ laid out.old pos (shifted_text da days value.now)) }
 {
-    let (dates, pad) = value.split_at(dates_end(da, value));
+    let stop = dates_end(da, value);
+    let mut from = 0;
     let mut at = pos;
-    for (i, piece) in dates.split(|b| *b == BACKSLASH).enumerate() {
-        if i > 0 {
-            buffer::put(out, at, BACKSLASH);
-            at += 1;
+    loop {
+        let end = basis::piece_end(value, from, stop);
+        let past = put_piece(da, &value[from..end], days, out, at);
+        if end == stop {
+            return buffer::copy_block(&value[stop..], out, past);
         }
-        at = put_piece(da, piece, days, out, at);
+        buffer::put(out, past, BACKSLASH);
+        at = past + 1;
+        from = end + 1;
     }
-    buffer::copy_block(pad, out, at)
 }

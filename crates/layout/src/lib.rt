@@ -207,7 +207,9 @@ fn vr_head(s: &[u8], at: usize, end: usize, tag: u64) -> Result<Head, Refusal>
     }
 }
 
-// An element's head, from its tag on.
+// An element's head, from its tag on. It stays a call of its own, and `element_head` is none: so the walks test for the end where they stand,
+// and only what follows it is handed back in memory.
+#[inline(never)]
 #[tactic(auto, unfolding(crate::specs::Heads::tag_head, crate::specs::Heads::allowed))]
 fn tag_head(s: &[u8], at: usize, end: usize, tag: u64, low: u64) -> Result<Head, Refusal>
     requires { (at + 8 ≤ end) × (end ≤ length s.now) × (tag < 4294967296) }
@@ -250,6 +252,7 @@ fn ended(
 
 // What stands at `at` in a container of elements that ends at `end`, or, where its length is not stated, at its end mark before that.
 // The next tag has to be `low` at least.
+#[inline(always)]
 #[tactic(auto, unfolding(crate::specs::Heads::element_head))]
 pub fn element_head(
     s: &[u8],
@@ -328,7 +331,8 @@ pub fn located<T: Copy>(found: Result<T, Refusal>, at: usize) -> Result<T, Fault
     })
 }
 
-// The elements of a container: the place past them, or the first fault.
+// The elements of a container: the place past them, or the first fault. Written out where it is called, so that an item takes one call.
+#[inline(always)]
 #[cycle(elements_item_sequence)]
 fn elements(s: &[u8], c: Container) -> Result<usize, Fault>
     requires { Lies c s.now }

@@ -39,8 +39,8 @@ pub fn key_of(uid: &[u8]) -> [u8; SLOT_SIZE]
 
 // Are the two one? All bytes are compared and none decides early, so that the loop is vector code: nine times as quick as one that stops
 // at the first difference, on UIDs that begin alike, and twice as quick as `==`.
-fn same_slot(slot: &[u8], key: &[u8; SLOT_SIZE]) -> bool
-    requires { length slot.now ≡ slot_size }
+fn same_slot(slot: &[u8], key: &[u8]) -> bool
+    requires { (length slot.now ≡ slot_size) × (length key.now ≡ slot_size) }
     ensures { result ≡ holds (same_uid slot.now key.now) }
 {
     let mut same = true;
@@ -53,8 +53,8 @@ fn same_slot(slot: &[u8], key: &[u8; SLOT_SIZE]) -> bool
 }
 
 // The place of the first slot in use that is this one, counted from 0.
-pub fn find(ledger: &[u8], used: usize, key: &[u8; SLOT_SIZE]) -> Option<usize>
-    requires { slot_size * used ≤ length ledger.now }
+pub fn find(ledger: &[u8], used: usize, key: &[u8]) -> Option<usize>
+    requires { (slot_size * used ≤ length ledger.now) × (length key.now ≡ slot_size) }
     ensures { result ≡ find ledger.now used key.now }
 {
     for i in 0..used {
@@ -67,8 +67,8 @@ pub fn find(ledger: &[u8], used: usize, key: &[u8; SLOT_SIZE]) -> Option<usize>
 }
 
 // The slot of a key: the first in use that is this one, else the next, which is then in use; `None` where no slot is left.
-pub fn slot_for(key: &[u8; SLOT_SIZE], ledger: &mut [u8], used: usize) -> Option<Slot>
-    requires { used ≤ slots_of ledger.old }
+pub fn slot_for(key: &[u8], ledger: &mut [u8], used: usize) -> Option<Slot>
+    requires { (length key.now ≡ slot_size) × (used ≤ slots_of ledger.old) }
     ensures { (result ≡ slot_for ledger.old used key.now) × (ledger.new ≡ ledger_for ledger.old used key.now) }
 {
     if let Some(place) = find(ledger, used, key) {

@@ -5,24 +5,26 @@
 --     code_of-digits, meaning_of-printable         a code value is digits; a meaning is characters 20 to 7E hex, no backslash
 --     rising low xs, code_number o                 xs rises from low on; the number that a code value spells
 --     chosen-rising                                the chosen options stand by rising code (W17)
---     chosen_in-chosen, chosen_in-other            the chosen options from a bit on, by what `Opt::is_in` answers: for a loop over the options
---     chosen_in-end                                there are none past the last
-use mathlib.Core.Path.{◌≡◌, refl}
+--     opt_at-bit, opt_at-past                      the option of a bit; a bit that is none of the six
+--     chosen_in-yes, chosen_in-no, chosen_in-end   the chosen options from a bit on, by what `Opt::at` answers: for a loop over the bits
+--     chosen_in-chosen, chosen_in-other            the same by what `Opt::is_in` answers
+use mathlib.Core.Path.{◌≡◌, refl, sym}
 use mathlib.Core.Bool.{Bool, true, false, ◌&&◌, not}
 use mathlib.Core.List.{List, [], ◌∷◌, map}
-use Rattle.std.specs.Prelude.{Some}
-use Prim.Native.Nat.{ℕ, ◌+◌, ◌-◌, ◌*◌, ◌≤◌, ◌<◌}
+use Rattle.std.specs.Prelude.{Option, None, Some}
+use Prim.Native.Nat.{ℕ, zero, suc, ◌+◌, ◌-◌, ◌*◌, ◌≤◌, ◌<◌}
 use native.Mathlib.Omega.{arith}
 use native.Mathlib.Numerals.{add-one}
 use borrow.Author.Tests.{leb-true, eqb-true}
 use lib.Dec.{eqb, leb}
 use lib.ListN.{length, drop, get_or, drop_of_length-le}
 use Rattle.std.specs.Prelude.{slice_get}
-use lib.Seq.{drop-cons}
+use lib.Seq.{drop-cons, drop-nil}
 use Rattle.std.proofs.lemmas.Bool.Decides.{nat_tests}
-use Rattle.basis.specs.Choice.{every}
+use Rattle.std.proofs.lemmas.Option.{slice_get_past}
+use Rattle.basis.specs.Choice.{pick, then, every}
 use Rattle.basis.proofs.ChoiceLaws.{both-true}
-use Rattle.options.specs.Options.{options, bit_of, code_of, meaning_of, is_chosen, chosen_in, chosen}
+use Rattle.options.specs.Options.{options, bit_of, code_of, meaning_of, is_chosen, chosen_in, chosen, opt_at}
 use Rattle.options.specs.declared.Opt.{Opt}
 
 -- ---- options
@@ -93,9 +95,49 @@ rising-chosen_in number low (o ∷ os) e =
 pub chosen-rising : (number : ℕ) → rising 0 (map code_number (chosen number)) ≡ true
 chosen-rising number = rising-chosen_in number 0 options refl
 
--- ---- a loop over the options
+-- ---- opt_at
+
+pub opt_at-bit : (number bit : ℕ) (o : Opt) → bit ≡ bit_of o → opt_at number bit ≡ pick (is_chosen number o) (Some o) None
+unfolding opt_at
+opt_at-bit number bit o e = rw (e, options-bit o) refl
+
+pub opt_at-past : (number bit : ℕ) → length options ≤ bit → opt_at number bit ≡ None
+unfolding opt_at
+opt_at-past number bit h = rw (slice_get_past options bit h) refl
+
+picked : (b : Bool) (x o : Opt) → pick b (Some x) None ≡ Some o → (b ≡ true) × (x ≡ o)
+picked true x o e = (refl, cc)
+picked false x o e = absurd (let z : ◌≡◌ {A = ℕ} 0 1 = cc in omega arith)
+
+dropped : (b : Bool) (x : Opt) → pick b (Some x) None ≡ None → b ≡ false
+dropped true x e = absurd (let z : ◌≡◌ {A = ℕ} 0 1 = cc in omega arith)
+dropped false x e = refl
+
+-- ---- a loop over the bits, or over the options
 
 module _ (number : ℕ) where
+  in-yes : (os : List Opt) (k : ℕ) (o : Opt) → then (slice_get os k) (λ o. pick (is_chosen number o) (Some o) None) ≡ Some o
+      → chosen_in number (drop k os) ≡ o ∷ chosen_in number (drop (suc k) os)
+  unfolding chosen_in
+  in-yes [] k o e = absurd (let z : ◌≡◌ {A = ℕ} 0 1 = cc in omega arith)
+  in-yes (x ∷ os) zero o e = let q = picked (is_chosen number x) x o e in rw (q.0, q.1) refl
+  in-yes (x ∷ os) (suc k) o e = in-yes os k o e
+
+  in-no : (os : List Opt) (k : ℕ) → then (slice_get os k) (λ o. pick (is_chosen number o) (Some o) None) ≡ None
+      → chosen_in number (drop k os) ≡ chosen_in number (drop (suc k) os)
+  unfolding chosen_in
+  in-no [] k e = rw (drop-nil k) refl
+  in-no (x ∷ os) zero e = rw (dropped (is_chosen number x) x e) refl
+  in-no (x ∷ os) (suc k) e = in-no os k e
+
+  pub chosen_in-yes : (bit : ℕ) (o : Opt) → opt_at number bit ≡ Some o → chosen_in number (drop bit options) ≡ o ∷ chosen_in number (drop (bit + 1) options)
+  unfolding opt_at
+  chosen_in-yes bit o e = rw (add-one bit) (in-yes options bit o e)
+
+  pub chosen_in-no : (bit : ℕ) → opt_at number bit ≡ None → chosen_in number (drop bit options) ≡ chosen_in number (drop (bit + 1) options)
+  unfolding opt_at
+  chosen_in-no bit e = rw (add-one bit) (in-no options bit e)
+
   pub chosen_in-chosen : (os : List Opt) (k : ℕ) (o : Opt) → k < length os → is_chosen number (get_or os k o) ≡ true
       → chosen_in number (drop k os) ≡ get_or os k o ∷ chosen_in number (drop (k + 1) os)
   unfolding chosen_in

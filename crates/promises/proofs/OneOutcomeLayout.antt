@@ -3,7 +3,7 @@
 use mathlib.Core.Path.{◌≡◌, sym, ◌∙◌}
 use mathlib.Core.Bool.{Bool}
 use Rattle.std.specs.Prelude.{Option, None, Some, Result, Ok, Err}
-use Rattle.std.specs.declared.ops.Range.{Range}
+use Rattle.view.specs.declared.Part.{Part}
 use Rattle.std.specs.declared.clone.Clone.{Ghosts}
 use Prim.Native.Nat.{ℕ, suc, ◌-◌}
 use native.Mathlib.Omega.{arith}
@@ -70,13 +70,13 @@ shape-of-one κs κs' s s' r r' e a b = cc
 pub search-one : (tag : ℕ) → OneRead 1 (Result (Option Attribute) Fault) (λ κs s r. search.Learnt κs (s, (tag, tt)) r (s, (tag, tt)))
 search-one tag κs κs' s s' r r' e a b = cc
 
-pub answer-to-one : (tag : ℕ) → OneRead 1 (Result (Option (Range ℕ)) Fault) (λ κs s r. answer-to.Learnt κs (s, (tag, tt)) r (s, (tag, tt)))
+pub answer-to-one : (tag : ℕ) → OneRead 1 (Result (Option Part) Fault) (λ κs s r. answer-to.Learnt κs (s, (tag, tt)) r (s, (tag, tt)))
 answer-to-one tag κs κs' s s' r r' e a b = cc
 
 abbrev pub Views : Lfts 4 → ℕ → Slice → MutBor ℕ → MutBor ℕ → MutBor ℕ → Slice → MutBor ℕ → MutBor ℕ → MutBor ℕ → Type 0
 Views κs tag s n o f r n₁ o₁ f₁ = view.Learnt κs (s, (tag, (n, (o, (f, tt))))) r (s, (tag, (n₁, (o₁, (f₁, tt)))))
 
-shows-one : (x : Result (Option (Range ℕ)) Fault) (r r' s s' : Slice) → s.now ≡ s'.now → Shows x r s → Shows x r' s' → SamePart (s.ref_ptr ≡ s'.ref_ptr) r r'
+shows-one : (x : Result (Option Part) Fault) (r r' s s' : Slice) → s.now ≡ s'.now → Shows x r s → Shows x r' s' → SamePart (s.ref_ptr ≡ s'.ref_ptr) r r'
 shows-one (Ok (Some part)) r r' s s' e a b = part-one r r' s s' part.start part.end e a b
 shows-one (Ok None) r r' s s' e a b = part-one r r' s s' 0 0 e a b
 shows-one (Err f) r r' s s' e a b = part-one r r' s s' 0 0 e a b

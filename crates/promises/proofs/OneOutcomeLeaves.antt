@@ -5,10 +5,10 @@ use mathlib.Core.Bool.{Bool}
 use mathlib.Core.List.{List}
 use Rattle.std.specs.Prelude.{Option}
 use Prim.Native.Nat.{ℕ}
-use contract.Lifetimes.{Lfts}
 use Rattle.refusals.specs.declared.Refusal.{Refusal}
 use Rattle.refusals.specs.declared.Fault.{Fault}
 use Rattle.vr.specs.declared.Kind.{Kind}
+use Rattle.vr.specs.declared.Dummy.{Dummy}
 use Rattle.refusals.proofs.Refusal.number.Reads as number
 use Rattle.refusals.proofs.Refusal.as_fault.Reads as as_fault
 use Rattle.buffer.proofs.put.Reads as put
@@ -21,7 +21,7 @@ use Rattle.vr.proofs.served_by_lists.Reads as served-by-lists
 use Rattle.vr.proofs.dummy_of.Reads as dummy-of
 use Rattle.write_headers.proofs.put_header.Reads as put-header
 use Rattle.write_headers.proofs.put_mark.Reads as put-mark
-use Rattle.promises.proofs.OneOutcome.{Slice, OneAnswer, OneWrite, OneCopy}
+use Rattle.promises.proofs.OneOutcome.{OneAnswer, OneWrite, OneCopy}
 
 -- ---- refusals
 
@@ -56,10 +56,11 @@ kind-of-one vr r r' a b = cc
 pub served-by-lists-one : (vr : ℕ) → OneAnswer Bool (λ r. served-by-lists.Learnt tt (vr, tt) r (vr, tt))
 served-by-lists-one vr r r' a b = cc
 
--- where the bytes lie is left open
-pub dummy-of-one : (κs κs' : Lfts 1) (vr : ℕ) (r r' : Slice) → dummy-of.Learnt κs (vr, tt) r (vr, tt) → dummy-of.Learnt κs' (vr, tt) r' (vr, tt)
-    → r.now ≡ r'.now
-dummy-of-one κs κs' vr r r' a b = cc
+pub dummy-of-one : (vr : ℕ) → OneAnswer Dummy (λ r. dummy-of.Learnt tt (vr, tt) r (vr, tt))
+dummy-of-one vr r r' a b =
+    let bytes : r.bytes ≡ r'.bytes = cc in
+    let len : r.len ≡ r'.len = cc in
+    λ i. record { bytes = bytes i; len = len i }
 
 -- ---- heads
 

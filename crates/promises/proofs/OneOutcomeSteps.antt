@@ -9,6 +9,8 @@ use Rattle.std.specs.Prelude.{Result}
 use Prim.Native.Nat.{ℕ}
 use lib.IntN.{ℤ}
 use contract.Lifetimes.{Lfts}
+use denote.RattleType.{RattleType}
+use denote.Param.Laws.{Laws}
 use Rattle.refusals.specs.declared.Refusal.{Refusal}
 use Rattle.refusals.specs.declared.Fault.{Fault}
 use Rattle.treatment.specs.Settings.{Settings, settings_of, Given}
@@ -40,11 +42,13 @@ judge-one κs κs' n rows rows' s s' r r' e a b = cc (a.right w has, b.right w h
     has : Given n w
     has = record { options_are = refl; shift_is = refl }
 
-pub refuse-one : (κs κs' : Lfts 2) (fault : Fault) (used : ℕ) (l l' o o' m m' p p' : Buffer) (r r' : Result Progress Fault) → l.now ≡ l'.now → o.now ≡ o'.now
-    → refuse.Learnt κs (fault, (l, (used, (o, tt)))) r (fault, (m, (used, (p, tt))))
-    → refuse.Learnt κs' (fault, (l', (used, (o', tt)))) r' (fault, (m', (used, (p', tt))))
+-- what names the refusal may be of any type
+pub refuse-one : (R : RattleType) (laws : Laws R) (κs κs' : Lfts 3) (refusal : R.Denot) (offset used : ℕ) (l l' o o' m m' p p' : Buffer) (r r' : Result Progress (R.Denot × ℕ))
+    → l.now ≡ l'.now → o.now ≡ o'.now
+    → refuse.Learnt R laws κs (refusal, (offset, (l, (used, (o, tt))))) r (tt, (offset, (m, (used, (p, tt)))))
+    → refuse.Learnt R laws κs' (refusal, (offset, (l', (used, (o', tt))))) r' (tt, (offset, (m', (used, (p', tt)))))
     → (r ≡ r') × (p.now ≡ p'.now) × (m.now ≡ m'.now)
-refuse-one κs κs' fault used l l' o o' m m' p p' r r' d e a b = (cc, cc, cc)
+refuse-one R laws κs κs' refusal offset used l l' o o' m m' p p' r r' d e a b = (cc, cc, cc)
 
 pub finish-one : (κs κs' : Lfts 2) (walk : Walk) (used : ℕ) (l l' o o' m m' p p' : Buffer) (r r' : Result Progress Fault) → l.now ≡ l'.now → o.now ≡ o'.now
     → finish.Learnt κs (walk, (l, (used, (o, tt)))) r (walk, (m, (used, (p, tt))))

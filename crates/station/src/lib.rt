@@ -48,17 +48,40 @@ pub fn early_refusal(
     Ok(())
 }
 
-// The first fault of shape (6 to 10), else the first among the values (11 and 12), or the place past the data set.
+// The first fault of shape (6 to 10), else the first among the values (11 and 12), or the place past the data set. No `?`: the wrong program
+// that loses a fault's offset here (shape_without_offset) can be refused for what it means only where the fault is handed on by name.
 pub fn judge(rows: &[u64], n: SettingNumbers, lent: &[u8]) -> Result<usize, Fault>
     requires { rows.now ≡ table }
     ensures { Judged n (explicitly lent.now) result }
 {
-    layout::shape_of(lent)?;
-    judge_values::first_fault(rows, n, lent)
+    match layout::shape_of(lent) {
+        Err(fault) => Err(fault),
+        Ok(_) => judge_values::first_fault(rows, n, lent),
+    }
 }
 
 // A refusal: nothing of the output is left, and of the ledger the slots in use; where there are fewer slots than that, it is left alone.
-pub fn refuse(
+// What names the refusal is handed back with its offset, whatever it is: an entry for another kind of input has refusals of its own.
+pub fn refuse<R>(
+    refusal: R,
+    offset: usize,
+    ledger: &mut [u8],
+    used: usize,
+    out: &mut [u8],
+) -> Result<Progress, (R, usize)>
+    ensures answer { result ≡ Err (refusal, offset) }
+    ensures output { out.new ≡ zeroed out.old }
+    ensures ledger { ledger.new ≡ left ledger.old used }
+{
+    buffer::zero_from(out, 0);
+    if used <= ledger::slots(ledger) {
+        ledger::zero_rest(ledger, used);
+    }
+    Err((refusal, offset))
+}
+
+// The same of a fault.
+fn refuse_fault(
     fault: Fault,
     ledger: &mut [u8],
     used: usize,
@@ -68,11 +91,13 @@ pub fn refuse(
     ensures output { out.new ≡ zeroed out.old }
     ensures ledger { ledger.new ≡ left ledger.old used }
 {
-    buffer::zero_from(out, 0);
-    if used <= ledger::slots(ledger) {
-        ledger::zero_rest(ledger, used);
+    match refuse(fault.refusal, fault.offset, ledger, used, out) {
+        Err((same, at)) => Err(Fault {
+            refusal: same,
+            offset: at,
+        }),
+        Ok(t) => Ok(t),
     }
-    Err(fault)
 }
 
 // After the walk that writes: no slot for a UID (13), no room for the output (14), or done.
@@ -88,11 +113,11 @@ pub fn finish(
     ensures ledger { ledger.new ≡ finished_ledger out.old ledger.old used walk }
 {
     let Some((_, t)) = walk else {
-        return refuse(Refusal::NoSlot.as_fault(), ledger, used, out);
+        return refuse_fault(Refusal::NoSlot.as_fault(), ledger, used, out);
     };
     let pos = t.pos;
     if out.len() < pos {
-        return refuse(Refusal::NoRoom.as_fault(), ledger, used, out);
+        return refuse_fault(Refusal::NoRoom.as_fault(), ledger, used, out);
     }
     buffer::zero_from(out, pos);
     ledger::zero_rest(ledger, t.used);
@@ -116,13 +141,13 @@ pub fn deidentify<'a>(
     ensures ledger { ledger.new ≡ ledger_of (input_of (explicitly lent.now) (told options shift root.now study.now site.now) ledger.old used (length out.old)) }
 {
     match early_refusal(lent.len(), options, shift, root, study, site, ledger, used) {
-        Err(refusal) => refuse(refusal.as_fault(), ledger, used, out),
+        Err(refusal) => refuse_fault(refusal.as_fault(), ledger, used, out),
         Ok(()) => {
             let days = options::days_of(shift);
             let n = SettingNumbers { options, days };
             let rows = table::rows();
             match judge(&rows, n, lent) {
-                Err(fault) => refuse(fault, ledger, used, out),
+                Err(fault) => refuse_fault(fault, ledger, used, out),
                 Ok(_) => {
                     let texts = SettingTexts { root, study, site };
                     let walk = write_walk::write(&rows, n, texts, lent, ledger, used, out, 0);

@@ -74,14 +74,29 @@ pub fn rows() -> [u64; e1_1::COUNT]
     e1_1::ROWS
 }
 
-// The row of a tag, if there is one. The plain search would take the first row with the tag; the rows rise by tag, so std's search by
-// halves finds the same one.
+// The row of a tag, if there is one. The plain search would take the first row with the tag; the rows rise by tag, so the row in the
+// middle tells which half of those that are left, from `low` up to `high`, can still have it. It ends at the row, which std's search by halves
+// does not: each element asks twice.
 pub fn row_of(rows: &[u64], tag: u64) -> Option<u64>
     requires { rows.now ≡ table }
     ensures { result ≡ row_of tag }
 {
-    let at = rows.binary_search_by_key(&tag, |row| row / TAG).ok()?;
-    Some(rows[at])
+    let mut low = 0;
+    let mut high = rows.len();
+    while low < high {
+        let middle = (low + high) / 2;
+        let row = rows[middle];
+        let there = row / TAG;
+        if there == tag {
+            return Some(row);
+        }
+        if there < tag {
+            low = middle + 1;
+        } else {
+            high = middle;
+        }
+    }
+    None
 }
 
 fn is_curve(tag: u64) -> bool

@@ -5,7 +5,7 @@
 use mathlib.Core.Path.{◌≡◌, ap}
 use mathlib.Core.List.{List}
 use Rattle.std.specs.Prelude.{Option, None, Some, Result, Ok, Err}
-use Rattle.std.specs.declared.ops.Range.{Range}
+use Rattle.view.specs.declared.Part.{Part}
 use Prim.Native.Nat.{ℕ, ◌+◌, ◌-◌, ◌≤◌}
 use native.Mathlib.Omega.{arith}
 use denote.Ref.{Bor}
@@ -33,7 +33,7 @@ view_of-refused x tag f e = search_of-refused x tag f (shown-refused (search_of 
 
 -- ---- Shows
 
-pub shows-numbers : (n : ℕ) (a : Result (Option (Range ℕ)) Fault) (r lent : Bor (List ℕ)) → Fits n a → Shows a r lent
+pub shows-numbers : (n : ℕ) (a : Result (Option Part) Fault) (r lent : Bor (List ℕ)) → Fits n a → Shows a r lent
     → IsPart r lent (start_of a) (start_of a + length_of a)
 shows-numbers n (Ok (Some part)) r lent f h = let e : part.start + (part.end - part.start) ≡ part.end = omega arith in rw e h
 shows-numbers n (Ok None) r lent f h = h

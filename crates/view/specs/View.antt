@@ -8,7 +8,7 @@
 -- Laws: `proofs/ViewLaws.antt`. Assumes nothing.
 use Rattle.std.specs.Prelude.{List, ℕ, ◌-◌, ◌≤◌, Option, None, Some, Result, Ok, Err}
 use Rattle.std.specs.Borrow.{Bor}
-use Rattle.std.specs.declared.ops.Range.{Range}
+use Rattle.view.specs.declared.Part.{Part}
 use Rattle.basis.specs.Parts.{IsPart}
 use Rattle.refusals.specs.Refusals.{number}
 use Rattle.refusals.specs.declared.Fault.{Fault}
@@ -17,46 +17,46 @@ use Rattle.view.specs.Search.{search_of}
 use Rattle.view.specs.declared.Attribute.{Attribute}
 
 -- whatever its VR is, the part that was found is shown
-abbrev pub shown : Result (Option Attribute) Fault → Result (Option (Range ℕ)) Fault
+abbrev pub shown : Result (Option Attribute) Fault → Result (Option Part) Fault
 shown (Ok (Some a)) = Ok (Some (record { start = a.body; end = a.past }))
 shown (Ok None) = Ok None
 shown (Err f) = Err f
 
-unfoldable pub view_of : Source → ℕ → Result (Option (Range ℕ)) Fault
+unfoldable pub view_of : Source → ℕ → Result (Option Part) Fault
 view_of x tag = shown (search_of x tag)
 
 -- the refusal's number, 0 where there is none
-abbrev pub refusal_of : Result (Option (Range ℕ)) Fault → ℕ
+abbrev pub refusal_of : Result (Option Part) Fault → ℕ
 refusal_of (Ok found) = 0
 refusal_of (Err f) = number f.refusal
 
-abbrev pub offset_of : Result (Option (Range ℕ)) Fault → ℕ
+abbrev pub offset_of : Result (Option Part) Fault → ℕ
 offset_of (Ok found) = 0
 offset_of (Err f) = f.offset
 
 -- 1 where the attribute was found, else 0
-abbrev pub found_of : Result (Option (Range ℕ)) Fault → ℕ
+abbrev pub found_of : Result (Option Part) Fault → ℕ
 found_of (Ok (Some part)) = 1
 found_of (Ok None) = 0
 found_of (Err f) = 0
 
 -- where the part that is shown begins, and its length; 0 and 0 where none is
-abbrev pub start_of : Result (Option (Range ℕ)) Fault → ℕ
+abbrev pub start_of : Result (Option Part) Fault → ℕ
 start_of (Ok (Some part)) = part.start
 start_of (Ok None) = 0
 start_of (Err f) = 0
 
-abbrev pub length_of : Result (Option (Range ℕ)) Fault → ℕ
+abbrev pub length_of : Result (Option Part) Fault → ℕ
 length_of (Ok (Some part)) = part.end - part.start
 length_of (Ok None) = 0
 length_of (Err f) = 0
 
-abbrev pub Shows : Result (Option (Range ℕ)) Fault → Bor (List ℕ) → Bor (List ℕ) → Type 0
+abbrev pub Shows : Result (Option Part) Fault → Bor (List ℕ) → Bor (List ℕ) → Type 0
 Shows (Ok (Some part)) r lent = IsPart r lent part.start part.end
 Shows (Ok None) r lent = IsPart r lent 0 0
 Shows (Err f) r lent = IsPart r lent 0 0
 
-abbrev pub Fits : ℕ → Result (Option (Range ℕ)) Fault → Type 0
+abbrev pub Fits : ℕ → Result (Option Part) Fault → Type 0
 Fits n (Ok (Some part)) = (part.start ≤ part.end) × (part.end ≤ n)
 Fits n (Ok None) = Unit {0}
 Fits n (Err f) = Unit {0}

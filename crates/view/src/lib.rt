@@ -12,7 +12,6 @@ ghost use Rattle.view.specs.Met.{met_of};
 
 use layout::{Container, Head};
 use refusals::{Fault, Refusal};
-use std::ops::Range;
 
 // An element of the top level: its VR, where the part after its length field begins, and the place past it.
 #[derive(Clone, Copy, Debug, PartialEq, Eq)]
@@ -20,6 +19,13 @@ pub struct Attribute {
     pub vr: u64,
     pub body: usize,
     pub past: usize,
+}
+
+// The part of a data set that is shown: where it begins, and the place past it. No `Range`: an answer that is read more than once is copied.
+#[derive(Clone, Copy, Debug, PartialEq, Eq)]
+pub struct Part {
+    pub start: usize,
+    pub end: usize,
 }
 
 // What is found once the element `tag` was passed: the first that is wanted stays.
@@ -80,11 +86,14 @@ pub fn search(s: &[u8], tag: u64) -> Result<Option<Attribute>, Fault>
 
 // The answer for every data set and tag: the part that the search found, whatever its VR.
 #[tactic(auto, unfolding(crate::specs::View::view_of))]
-pub fn answer_to(s: &[u8], tag: u64) -> Result<Option<Range<usize>>, Fault>
+pub fn answer_to(s: &[u8], tag: u64) -> Result<Option<Part>, Fault>
     ensures { (result ≡ view_of (explicitly s.now) tag) × Fits (length s.now) result }
 {
     let found = search(s, tag)?;
-    Ok(found.map(|attribute| attribute.body..attribute.past))
+    Ok(found.map(|attribute| Part {
+        start: attribute.body,
+        end: attribute.past,
+    }))
 }
 
 // The answer's numbers, and the part of `lent` that is the attribute, or an empty part.
@@ -107,7 +116,7 @@ pub fn view<'a>(
     match answer_to(lent, tag) {
         Ok(Some(part)) => {
             *found = 1;
-            &lent[part]
+            &lent[part.start..part.end]
         }
         Ok(None) => &lent[0..0],
         Err(fault) => {

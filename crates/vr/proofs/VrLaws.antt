@@ -7,22 +7,24 @@
 --     kind_of-sequence   SQ alone is Sequence
 --     all_vrs-two        the letters of a VR are two bytes
 --     dummy_of-short     a dummy has at most 14 bytes, whatever the VR is
+--     dummy_of-front     what `dummy_of` hands over begins with the dummy
 use mathlib.Core.Path.{◌≡◌, refl}
 use mathlib.Core.Bool.{Bool, true, false}
 use mathlib.Core.List.{[], ◌∷◌, map}
 use Rattle.std.specs.Prelude.{None, Some}
-use Prim.Native.Nat.{ℕ, ◌≤◌, ◌<◌}
+use Prim.Native.Nat.{ℕ, ◌-◌, ◌≤◌, ◌<◌}
 use native.Mathlib.Omega.{arith}
 use lib.Dec.{eqb, ltb, ltb→lt}
-use lib.ListN.{length, replicate}
+use lib.ListN.{length, take, replicate}
 use borrow.Author.Tests.{eqb-true}
 use Rattle.std.proofs.lemmas.Bool.Decides.{nat_tests}
+use Rattle.std.proofs.lemmas.List.{take_at}
 use Rattle.basis.specs.Choice.{pick, among}
 use Rattle.basis.specs.Bytes.{le2}
 use Rattle.basis.specs.Text.{ascii}
 use Rattle.basis.proofs.ChoiceLaws.{among-each, among-less, eqb-less}
 use Rattle.vr.specs.Names.{SQ}
-use Rattle.vr.specs.Vr.{all_vrs, long, kind_of, dummy_of}
+use Rattle.vr.specs.Vr.{all_vrs, long, kind_of, dummy_of, in_room}
 use Rattle.vr.specs.declared.Kind.TheVariants.{Short, Long, Sequence}
 
 -- ---- known
@@ -72,3 +74,6 @@ kind_of-sequence vr e = step (eqb vr SQ) (among vr long) (among vr all_vrs) refl
 pub dummy_of-short : (vr : ℕ) → length (dummy_of vr) ≤ 14
 unfolding dummy_of among
 dummy_of-short vr = grind (arith, nat_tests)
+
+pub dummy_of-front : (vr : ℕ) → take (length (dummy_of vr)) (in_room (dummy_of vr)) ≡ dummy_of vr
+dummy_of-front vr = take_at (dummy_of vr) (replicate (14 - length (dummy_of vr)) 0) (length (dummy_of vr)) refl

@@ -4,8 +4,9 @@
 --     kind_of vr          how an element's header goes on after the VR: Short, Long or Sequence; None where it is none of the 34
 --     served_by_lists vr  a replacement list may give a value for it
 --     dummy_of vr         what D writes where no list has a value, before padding; nothing for UI and SQ, which D treats otherwise, and for no VR
+--     in_room xs          xs and then zeros, 14 bytes in all: how the code hands a dummy over
 -- Laws: `proofs/VrLaws.antt`. Assumes nothing.
-use Rattle.std.specs.Prelude.{Bool, List, [], ◌∷◌, ℕ, eqb, replicate, Option, None, Some}
+use Rattle.std.specs.Prelude.{Bool, List, [], ◌∷◌, ◌++◌, ℕ, ◌-◌, eqb, length, replicate, Option, None, Some}
 use Rattle.basis.specs.Choice.{pick, among}
 use Rattle.basis.specs.Text.{ascii}
 use Rattle.vr.specs.Names.{AE, AS, AT, CS, DA, DS, DT, FD, FL, IS, LO, LT, OB, OD, OF, OL, OV, OW, PN, SH, SL, SQ, SS, ST, SV, TM, UC, UI, UL, UN, UR, US, UT, UV}
@@ -48,3 +49,6 @@ dummy_of vr =
     (pick (among vr (AT ∷ FL ∷ OF ∷ OL ∷ SL ∷ UL ∷ [])) (replicate 4 0)
     (pick (among vr (FD ∷ OD ∷ OV ∷ SV ∷ UV ∷ [])) (replicate 8 0)
     []))))))))
+
+abbrev pub in_room : List ℕ → List ℕ
+in_room xs = xs ++ replicate (14 - length xs) 0

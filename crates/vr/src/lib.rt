@@ -2,8 +2,8 @@
 // of a VR here, in `treatment` and over the C interface has an answer for every number.
 #![tactic(auto)]
 
-ghost use Rattle.std.specs.Prelude.{◌≡◌, ◌<◌};
-ghost use Rattle.vr.specs.Vr.{all_vrs, kind_of, served_by_lists, dummy_of};
+ghost use Rattle.std.specs.Prelude.{◌≡◌, ◌<◌, length};
+ghost use Rattle.vr.specs.Vr.{all_vrs, kind_of, served_by_lists, dummy_of, in_room};
 ghost use Rattle.vr.specs.Kinds.{KindsAfter};
 
 pub const AE: u64 = 0x4541;
@@ -73,6 +73,9 @@ pub const US: u64 = 0x5355;
 pub const UT: u64 = 0x5455;
 
 pub const UV: u64 = 0x5655;
+
+// The longest dummy, DT's.
+pub const ROOM: usize = 14;
 
 // How an element's header goes on after its VR.
 #[derive(Clone, Copy, Debug, PartialEq, Eq)]
@@ -155,21 +158,58 @@ pub fn served_by_lists(vr: u64) -> bool
     )
 }
 
+// A dummy: `len` bytes, and zeros after them.
+#[derive(Clone, Copy, Debug, PartialEq, Eq)]
+pub struct Dummy {
+    pub bytes: [u8; ROOM],
+    pub len: usize,
+}
+
 // What D writes where no list has a value; the value is padded where it is written.
 #[tactic(auto, unfolding(crate::specs::Vr::dummy_of, basis::specs::Choice::among))]
-pub fn dummy_of(vr: u64) -> &'static [u8]
-    ensures { result.now ≡ dummy_of vr }
+pub fn dummy_of(vr: u64) -> Dummy
+    ensures { (result.bytes ≡ in_room (dummy_of vr)) × (result.len ≡ length (dummy_of vr)) }
 {
     match vr {
-        AE | CS | LO | LT | PN | SH | ST | UC | UR | UT => b"ANON",
-        AS => b"000Y",
-        DA => b"19000101",
-        DT => b"19000101000000",
-        TM => b"000000",
-        DS | IS => b"0",
-        OB | OW | UN | US | SS => &[0; 2],
-        AT | FL | OF | OL | SL | UL => &[0; 4],
-        FD | OD | OV | SV | UV => &[0; 8],
-        _ => &[],
+        AE | CS | LO | LT | PN | SH | ST | UC | UR | UT => Dummy {
+            bytes: *b"ANON\0\0\0\0\0\0\0\0\0\0",
+            len: 4,
+        },
+        AS => Dummy {
+            bytes: *b"000Y\0\0\0\0\0\0\0\0\0\0",
+            len: 4,
+        },
+        DA => Dummy {
+            bytes: *b"19000101\0\0\0\0\0\0",
+            len: 8,
+        },
+        DT => Dummy {
+            bytes: *b"19000101000000",
+            len: 14,
+        },
+        TM => Dummy {
+            bytes: *b"000000\0\0\0\0\0\0\0\0",
+            len: 6,
+        },
+        DS | IS => Dummy {
+            bytes: *b"0\0\0\0\0\0\0\0\0\0\0\0\0\0",
+            len: 1,
+        },
+        OB | OW | UN | US | SS => Dummy {
+            bytes: [0; ROOM],
+            len: 2,
+        },
+        AT | FL | OF | OL | SL | UL => Dummy {
+            bytes: [0; ROOM],
+            len: 4,
+        },
+        FD | OD | OV | SV | UV => Dummy {
+            bytes: [0; ROOM],
+            len: 8,
+        },
+        _ => Dummy {
+            bytes: [0; ROOM],
+            len: 0,
+        },
     }
 }

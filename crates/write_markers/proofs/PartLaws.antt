@@ -41,15 +41,15 @@ use Rattle.write_markers.proofs.StepLaws.{yes_due, codes_due, dates_due, gaining
 
 -- ---- elements with a text
 
-cs-short : kind_of CS ≡ Some Short
+pub cs-short : kind_of CS ≡ Some Short
 unfolding kind_of among
 cs-short = refl
 
-sh-short : kind_of SH ≡ Some Short
+pub sh-short : kind_of SH ≡ Some Short
 unfolding kind_of among
 sh-short = refl
 
-lo-short : kind_of LO ≡ Some Short
+pub lo-short : kind_of LO ≡ Some Short
 unfolding kind_of among
 lo-short = refl
 
@@ -58,13 +58,13 @@ unfolding kind_of
 sq-sequence = refl
 
 -- `RoundLaws` of the crate `layout` has these two for itself
-short-length : (tag vr n : ℕ) → kind_of vr ≡ Some Short → length (header tag vr n) ≡ 8
+pub short-length : (tag vr n : ℕ) → kind_of vr ≡ Some Short → length (header tag vr n) ≡ 8
 short-length tag vr n e = ap length (header-short tag vr n e)
 
 pub sequence-length : (tag n : ℕ) → length (header tag SQ n) ≡ 12
 sequence-length tag n = ap length (header-sequence tag SQ n sq-sequence)
 
-text-length : (tag vr : ℕ) (t : List ℕ) → kind_of vr ≡ Some Short → length (put_field {L = Unit {0}} tag vr (text t) []) ≡ 8 + length (spaced t)
+pub text-length : (tag vr : ℕ) (t : List ℕ) → kind_of vr ≡ Some Short → length (put_field {L = Unit {0}} tag vr (text t) []) ≡ 8 + length (spaced t)
 unfolding put_field
 text-length tag vr t e =
     length-append (header tag vr (length (spaced t))) (spaced t ++ [])
@@ -108,7 +108,7 @@ scheme-length = omega (arith, text-length 0x0008_0102 SH (ascii "DCM") sh-short,
 pub meaning-length : (meaning : List ℕ) → length (meaning_part meaning) ≡ 8 + length (spaced meaning)
 meaning-length meaning = text-length 0x0008_0104 LO meaning lo-short
 
-item-length : (code meaning : List ℕ) → length code ≤ 6 → length meaning ≤ 64 → length (item_bytes (code_item code meaning)) ≤ 116
+pub item-length : (code meaning : List ℕ) → length code ≤ 6 → length meaning ≤ 64 → length (item_bytes (code_item code meaning)) ≤ 116
 item-length code meaning h k =
     rw (
       item-parts code meaning,
@@ -163,7 +163,7 @@ chosen-few picked (o ∷ os) = step (is_chosen picked o) (chosen-few picked os)
     step true h = omega arith
     step false h = omega arith
 
-option-length : (o : Opt) → length (item_bytes (code_item (code_of o) (meaning_of o))) ≤ 116
+pub option-length : (o : Opt) → length (item_bytes (code_item (code_of o) (meaning_of o))) ≤ 116
 option-length o = item-length (code_of o) (meaning_of o) (omega (arith, code_of-length o)) (meaning_of-length o).1
 
 pub basic-length : length basic_part ≤ 116
@@ -205,14 +205,14 @@ gain-length low high m vr n f h =
     pick-case (λ d. length (put_elements d []) ≤ n) (due low high m) (elem tt m vr f nil) nil (λ _. h) (λ _. omega arith)
 
 module _ (picked low high : ℕ) where
-  yes-due-length : length (yes_due picked low high) ≤ 12
+  pub yes-due-length : length (yes_due picked low high) ≤ 12
   yes-due-length =
       gain-length low high patient_identity_removed_tag CS 12 (text (ascii "YES")) (omega (arith, yes-length))
 
-  codes-due-length : length (codes_due picked low high) ≤ 832
+  pub codes-due-length : length (codes_due picked low high) ≤ 832
   codes-due-length = gain-length low high deidentification_codes_tag SQ 832 (items (codes picked)) (codes-length picked)
 
-  dates-due-length : length (dates_due picked low high) ≤ 19
+  pub dates-due-length : length (dates_due picked low high) ≤ 19
   dates-due-length =
       gain-length low high longitudinal_time_tag CS 19 (text (date_word picked))
       (omega (arith, text-length longitudinal_time_tag CS (date_word picked) cs-short, spaced-length (date_word picked), word-length picked))

@@ -12,14 +12,15 @@ use mathlib.Core.Bool.{true, false}
 use mathlib.Core.List.{List, [], ◌++◌}
 use Prim.Native.Nat.{ℕ, ◌+◌, ◌≤◌, ◌<◌}
 use native.Mathlib.Omega.{arith}
-use lib.ListN.{length, drop, length-append, get_or}
+use lib.ListN.{length, drop, length-append}
+use Rattle.std.specs.Prelude.{None, Some}
 use Rattle.buffer.specs.Buffer.{laid}
 use Rattle.buffer.proofs.Laws.{laid-none, laid-laid, laid-more}
 use Rattle.layout.specs.Tree.{Field, nil, Data}
 use Rattle.layout.specs.Write.{mark, put_elements, put_field, bytes_of}
-use Rattle.options.specs.Options.{options, code_of, meaning_of, is_chosen, chosen_in}
+use Rattle.options.specs.Options.{options, code_of, meaning_of, chosen_in, opt_at}
 use Rattle.options.specs.declared.Opt.{Opt}
-use Rattle.options.proofs.OptionsLaws.{code_of-length, meaning_of-length, chosen_in-chosen, chosen_in-other, chosen_in-end}
+use Rattle.options.proofs.OptionsLaws.{code_of-length, meaning_of-length, chosen_in-yes, chosen_in-no, chosen_in-end}
 use Rattle.kept.specs.Markers.{code_item, option_items}
 use Rattle.kept.proofs.FillersLaws.{spaced-length}
 use Rattle.write_markers.specs.Gains.{due, gain, gaining}
@@ -48,13 +49,12 @@ abbrev option_bytes : Opt → List ℕ
 option_bytes opt = item_bytes (code_item (code_of opt) (meaning_of opt))
 
 module _ (number bit : ℕ) where
-  pub left-chosen : (d : Opt) → bit < length options → is_chosen number (get_or options bit d) ≡ true
-      → left number bit ≡ option_bytes (get_or options bit d) ++ left number (bit + 1)
+  pub left-yes : (opt : Opt) → opt_at number bit ≡ Some opt → left number bit ≡ option_bytes opt ++ left number (bit + 1)
   unfolding items_bytes option_items
-  left-chosen d h e = ap (λ (os : List Opt). items_bytes (option_items os)) (chosen_in-chosen number options bit d h e)
+  left-yes opt e = ap (λ (os : List Opt). items_bytes (option_items os)) (chosen_in-yes number bit opt e)
 
-  pub left-other : (d : Opt) → bit < length options → is_chosen number (get_or options bit d) ≡ false → left number bit ≡ left number (bit + 1)
-  left-other d h e = ap (λ (os : List Opt). items_bytes (option_items os)) (chosen_in-other number options bit d h e)
+  pub left-no : opt_at number bit ≡ None → left number bit ≡ left number (bit + 1)
+  left-no e = ap (λ (os : List Opt). items_bytes (option_items os)) (chosen_in-no number bit e)
 
   pub left-none : length options ≤ bit → left number bit ≡ []
   unfolding items_bytes option_items

@@ -42,8 +42,8 @@ fn put_options(options: u64, out: &mut [u8], pos: usize) -> usize
     ensures { Puts (items_bytes (option_items (chosen options))) out.old pos out.new result }
 {
     let mut p = pos;
-    for opt in Opt::ALL {
-        if opt.is_in(options) {
+    for bit in 0..Opt::COUNT {
+        if let Some(opt) = Opt::at(options, bit) {
             p = put_code(&opt.code(), opt.meaning(), out, p);
         }
     }

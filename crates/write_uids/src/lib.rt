@@ -25,7 +25,7 @@ fn slot_of(uid: &[u8], ledger: &mut [u8], used: usize) -> Option<Slot>
 }
 
 // The new UIDs of a value that has some, with backslashes between them: the output's next place, and the new count of slots in use;
-// `None` where a UID has no slot.
+// `None` where a UID has no slot. They are not found by `split`, since where a piece ends is the promise of `basis::piece_end`.
 fn put_uids(
     uids: &[u8],
     root: &[u8],
@@ -37,18 +37,21 @@ fn put_uids(
     requires { (length root.now ≤ longest_root) × (used ≤ slots_of ledger.old) × (pos + 66 * (length uids.now + 1) < 2 ^ 63) }
     ensures { Texted uids.now root.now ledger.old ledger.new used out.old out.new pos result }
 {
+    let mut from = 0;
     let mut place = pos;
     let mut count = used;
-    for (i, uid) in uids.split(|b| *b == basis::BACKSLASH).enumerate() {
-        if i > 0 {
-            buffer::put(out, place, basis::BACKSLASH);
-            place += 1;
+    loop {
+        let end = basis::piece_end(uids, from, uids.len());
+        let slot = slot_of(&uids[from..end], ledger, count)?;
+        let past = uid::put_uid(root, slot.number, out, place);
+        if end == uids.len() {
+            return Some((past, slot.used));
         }
-        let slot = slot_of(uid, ledger, count)?;
-        place = uid::put_uid(root, slot.number, out, place);
+        buffer::put(out, past, basis::BACKSLASH);
+        place = past + 1;
         count = slot.used;
+        from = end + 1;
     }
-    Some((place, count))
 }
 
 // The zero byte behind a text of odd length that ends at `end`, and the header in front of it, which begins at `pos`. The header comes

@@ -23,7 +23,7 @@ use Rattle.buffer.specs.Buffer.{laid}
 use Rattle.buffer.proofs.Laws.{laid-more}
 use Rattle.vr.specs.Names.{SQ}
 use Rattle.vr.specs.Vr.{served_by_lists, dummy_of}
-use Rattle.vr.proofs.VrLaws.{dummy_of-short}
+use Rattle.vr.proofs.VrLaws.{dummy_of-short, dummy_of-front}
 use Rattle.layout.specs.Tree.{Field, value, items, nil, none as no_item, item}
 use Rattle.layout.specs.Heads.{item_tag, item_end, sequence_end, undefined}
 use Rattle.layout.specs.Write.{mark, header, put_elements, put_field, put_sequence, put_items}
@@ -126,7 +126,7 @@ pub ruleset emptied_laws = (length-asked, emptied_listed, emptied-bare)
 
 pub ruleset found_laws = (asked-none, asked-some)
 
-pub ruleset dummied_laws = (length-dummied, dummied-value, dummied_sequence)
+pub ruleset dummied_laws = (dummy_of-front, length-dummied, dummied-value, dummied_sequence)
 
 -- ---- how long such an element is
 

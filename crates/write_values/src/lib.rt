@@ -5,7 +5,6 @@
 ghost use Rattle.std.specs.Prelude.{◌≡◌, ◌+◌, ◌<◌, ◌^◌, eqb, length};
 ghost use Rattle.buffer.specs.Buffer.{laid, Puts};
 ghost use Rattle.vr.specs.Names.{DA, SQ};
-ghost use Rattle.vr.specs.Vr.{dummy_of};
 ghost use Rattle.layout.specs.Tree.{value, items, nil, none as no_item, item};
 ghost use Rattle.calendar.specs.Values.{shifted_text};
 ghost use Rattle.kept.specs.Fillers.{spaced, listed, or, emptied_as, dummied_as};
@@ -71,8 +70,14 @@ pub fn put_emptied<'a>(
 
 // What D writes of a VR other than SQ, before padding: a list's value where there is one, else the dummy.
 #[tactic(auto, using(crate::proofs::FillerLaws::found_laws), unfolding(kept::specs::Fillers::listed))]
-fn dummied_value<'a>(study: &'a [u8], site: &'a [u8], tag: u64, vr: u64) -> &'a [u8]
-    ensures { result.now ≡ or (listed (with_lists study.now site.now) tag vr) (dummy_of vr) }
+fn dummied_value<'a>(
+    study: &'a [u8],
+    site: &'a [u8],
+    tag: u64,
+    vr: u64,
+    dummy: &'a [u8],
+) -> &'a [u8]
+    ensures { result.now ≡ or (listed (with_lists study.now site.now) tag vr) dummy.now }
 {
     if vr::served_by_lists(vr) {
         let found = lists::lookup(study, site, tag);
@@ -80,7 +85,7 @@ fn dummied_value<'a>(study: &'a [u8], site: &'a [u8], tag: u64, vr: u64) -> &'a 
             return found;
         }
     }
-    vr::dummy_of(vr)
+    dummy
 }
 
 // A sequence with one empty item.
@@ -111,5 +116,7 @@ pub fn put_dummied<'a>(
     if vr == vr::SQ {
         return put_blank_sequence(tag, out, pos);
     }
-    put_text(tag, vr, dummied_value(study, site, tag, vr), out, pos)
+    let dummy = vr::dummy_of(vr);
+    let value = dummied_value(study, site, tag, vr, &dummy.bytes[..dummy.len]);
+    put_text(tag, vr, value, out, pos)
 }

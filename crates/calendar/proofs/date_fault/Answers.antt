@@ -1,28 +1,41 @@
--- `calendar::date_fault` meets its contract: an empty value, or the pieces of another. Assumes nothing.
-use mathlib.Core.Path.{sym, ap, ◌∙◌}
-use mathlib.Core.Bool.{not}
-use mathlib.Core.List.{List}
-use Prim.Native.Nat.{ℕ}
-use Rattle.std.proofs.Common.{rules, tests}
-use Rattle.std.proofs.lemmas.Iterator.Search.{any_from_yields_List}
-use Rattle.std.proofs.lemmas.Iterator.Splits.{YieldsList-from_slice_split}
-use lib.Dec.{eqb}
-use lib.ListN.{take}
-use Rattle.basis.specs.Choice.{is_none}
-use Rattle.basis.specs.Pieces.{backslash}
-use Rattle.calendar.specs.Text.{moved_date}
-use Rattle.calendar.proofs.Judging.{fault-none, fault-is}
+-- `calendar::date_fault` meets its contract. Assumes nothing.
+use mathlib.Core.Path.{sym}
+use borrow.Author.Tests.{eqb-true, eqb-false}
+use mir.Facts.{to_z-of_z}
+use Rattle.calendar.proofs.Judging.{judge-nothing, judge-start, judge-cut, judge-bad, judge-last, judge-on}
+use native.Mathlib.Omega.{arith}
 use Rattle.calendar.proofs.date_fault.Goals as goal
 
-pub returns-then-not-is_empty : goal.returns-then-not-is_empty
-returns-then-not-is_empty c =
-    let a = c.args in
-    let cut : List ℕ = take c.dates_end.result a.value.now in
-    any_from_yields_List (λ u. is_none (moved_date a.da a.days u)) _ _ _ c.any.ensures.ran
-    (YieldsList-from_slice_split _ (λ x. eqb x backslash) cut c.split.ensures.rest c.split.ensures.done c.split.ensures.closure (λ x b q k. search (rules, tests)))
-    (λ x b q k. search (rules, tests))
-    ∙ rw c.dates_end.ensures.end (fault-is a.da a.days a.value.now (sym c.is_empty.ensures ∙ c.if-not-is_empty.true))
+pub returns-then-is_empty : goal.returns-then-is_empty
+returns-then-is_empty c =
+    let a = c.args in judge-nothing a.da a.value.now a.days (eqb-true _ _ (sym c.if-is_empty.ensures))
 
-pub returns-else-not-is_empty : goal.returns-else-not-is_empty
-returns-else-not-is_empty c =
-    ap not c.if-not-is_empty.false ∙ fault-none c.args.da c.args.days c.args.value.now (sym c.is_empty.ensures ∙ c.if-not-is_empty.false)
+pub loop-da-init : goal.loop-da-init
+loop-da-init c = judge-start _ _ _ (omega (arith, eqb-false _ _ (sym c.if-is_empty.ensures))) c.dates_end-stop.ensures.end
+
+pub slice_bounds-moved_date-end : goal.slice_bounds-moved_date-end
+slice_bounds-moved_date-end c =
+    let g = c.loop-da.invariant in
+    let u = judge-cut g c.piece_end-end.ensures in
+    omega (arith, u.upto, g.upto)
+
+pub returns-then-is_none : goal.returns-then-is_none
+returns-then-is_none c =
+    rw (sym (to_z-of_z c.ranges.days))
+    (judge-bad c.loop-da.invariant c.piece_end-end.ensures c.moved_date.ensures.date c.if-is_none.ensures)
+
+pub returns-then-end-stop : goal.returns-then-end-stop
+returns-then-end-stop c =
+    rw (sym (to_z-of_z c.ranges.days))
+    (judge-last c.loop-da.invariant c.piece_end-end.ensures c.moved_date.ensures.date c.if-is_none.ensures c.if-end-stop.true)
+
+pub loop-da-smaller : goal.loop-da-smaller
+loop-da-smaller c =
+    let u = judge-cut c.loop-da.invariant c.piece_end-end.ensures in
+    omega (arith, u.from, u.upto, c.if-end-stop.false)
+
+pub loop-da-preserved : goal.loop-da-preserved
+loop-da-preserved c =
+    let u = judge-cut c.loop-da.invariant c.piece_end-end.ensures in
+    judge-on c.loop-da.invariant c.piece_end-end.ensures c.moved_date.ensures.date c.if-is_none.ensures
+    (omega (arith, u.upto, c.if-end-stop.false))

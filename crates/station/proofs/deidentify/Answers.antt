@@ -16,7 +16,7 @@ pub returns-in-Err : goal.returns-in-Err
 returns-in-Err c =
     let a = c.args in
     let i : Input = input_of (explicitly a.lent.now) (told a.options a.shift a.root.now a.study.now a.site.now) a.ledger.now a.used (length a.out.now) in
-    let left = c.refuse.ensures in
+    let left = c.refuse_fault.ensures in
     let x = refused-early i a.out.now refl _ (early-refused i (to_z-of_z c.ranges.shift) c.early_refusal.ensures _ c.in-Err.is) (left.answer ∙ ap Err c.as_fault.ensures) left.output left.ledger in
     record { answer = x.told; output = x.output; ledger = x.ledger }
 
@@ -42,7 +42,7 @@ returns-in-Err-judge c =
     let i : Input = input_of (explicitly a.lent.now) (told a.options a.shift a.root.now a.study.now a.site.now) a.ledger.now a.used (length a.out.now) in
     let shift = to_z-of_z c.ranges.shift in
     let e = not-early _ _ _ _ c.early_refusal.ensures c.in-Ok.is in
-    let left = c.refuse-in-Err-judge.ensures in
+    let left = c.refuse_fault-in-Err-judge.ensures in
     let x = refused-judged i a.out.now refl (early-none i shift c.early_refusal.ensures c.in-Ok.is) (record { options_are = refl; shift_is = days-are shift e.days c.days_of-days.ensures }) c.judge.ensures _ c.in-Err-judge.is left.answer left.output left.ledger in
     record { answer = x.told; output = x.output; ledger = x.ledger }
 

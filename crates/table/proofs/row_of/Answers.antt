@@ -1,21 +1,35 @@
 -- `table::row_of` meets its contract. Assumes nothing.
-use mathlib.Core.Path.{◌∙◌, ap}
-use Rattle.std.specs.Prelude.{option_map}
-use Rattle.std.proofs.Common.{rules}
-use Rattle.std.proofs.lemmas.List.Sorted.{answers_always}
-use lib.ListN.{get_or}
+use mathlib.Core.Path.{sym, ◌∙◌, ap}
+use mathlib.Core.List.{List}
+use Rattle.std.specs.Prelude.{Some}
+use Prim.Native.Nat.{ℕ, ◌+◌, ◌/◌}
+use lib.ListN.{length, get_or}
 use Rattle.table.specs.Table.{tag_of}
-use Rattle.table.proofs.SearchLaws.{searched}
+use Rattle.table.proofs.TableLaws.{length-table, row_of-found}
+use Rattle.table.proofs.SearchLaws.{left-all, left-after, left-before, left-none}
+use native.Mathlib.Omega.{arith}
 use Rattle.table.proofs.row_of.Goals as goal
 
-pub returns-in_err-at : goal.returns-in_err-at
-returns-in_err-at c =
-    let facts = c.binary_search_by_key.ensures in
-    let by_tag = facts.position tag_of (answers_always _ _ _ (λ f a r g called. search rules)) in
-    c.from_residual.ensures ∙ ap (option_map (λ i. get_or c.args.rows.now i 0)) c.in_err-at.ensures.value ∙ searched c.args.rows.now c.requires c.args.tag _ facts.bound by_tag
+pub loop-low-init : goal.loop-low-init
+loop-low-init c = left-all _ _ (omega (arith, ap length c.requires, length-table))
+
+pub overflow_add-middle : goal.overflow_add-middle
+overflow_add-middle c = omega (arith, c.loop-low.invariant.within)
+
+pub bounds-rows-middle : goal.bounds-rows-middle
+bounds-rows-middle c = omega (arith, c.loop-low.invariant.within, ap length c.requires, length-table)
+
+pub returns-then-there-tag : goal.returns-then-there-tag
+returns-then-there-tag c = ap (λ (rows : List ℕ). Some (get_or rows ((c.loop-low.low + c.loop-low.high) / 2) 0)) c.requires ∙ sym (row_of-found _ _ (omega (arith, c.loop-low.invariant.within)) (ap tag_of (sym (ap (λ (rows : List ℕ). get_or rows ((c.loop-low.low + c.loop-low.high) / 2) 0) c.requires)) ∙ c.if-there-tag.true))
+
+pub overflow_add-low : goal.overflow_add-low
+overflow_add-low c = omega (arith, c.loop-low.invariant.within)
+
+pub loop-low-preserved-then-there-tag-2 : goal.loop-low-preserved-then-there-tag-2
+loop-low-preserved-then-there-tag-2 c = left-after _ _ _ _ (omega (arith, c.loop-low.invariant.within)) c.loop-low.invariant (omega (arith, ap tag_of (ap (λ (rows : List ℕ). get_or rows ((c.loop-low.low + c.loop-low.high) / 2) 0) c.requires), c.if-there-tag-2.true))
+
+pub loop-low-preserved : goal.loop-low-preserved
+loop-low-preserved c = left-before _ _ _ _ (omega (arith, c.loop-low.invariant.within)) c.loop-low.invariant (omega (arith, ap tag_of (ap (λ (rows : List ℕ). get_or rows ((c.loop-low.low + c.loop-low.high) / 2) 0) c.requires), c.if-there-tag-2.false, c.if-there-tag.false))
 
 pub returns : goal.returns
-returns c =
-    let facts = c.binary_search_by_key.ensures in
-    let by_tag = facts.position tag_of (answers_always _ _ _ (λ f a r g called. search rules)) in
-    ap (option_map (λ i. get_or c.args.rows.now i 0)) c.in_ok-at.ensures.value ∙ searched c.args.rows.now c.requires c.args.tag _ facts.bound by_tag
+returns c = sym (left-none _ _ _ (omega arith) c.loop-low.invariant)

@@ -7,6 +7,6 @@ use Rattle.write_markers.proofs.PartLaws.{options_part}
 use Rattle.write_markers.proofs.PutLaws.{left}
 use Rattle.write_markers.proofs.put_options.Given as goal
 
-abbrev pub invariant-loop-opt : goal.invariant-loop-opt
-invariant-loop-opt l = (l.p + length (left l.options l.opt-index) ≡ l.pos + length (options_part l.options))
-    × (laid l.out l.p (left l.options l.opt-index) ≡ laid l.initial.out l.pos (options_part l.options))
+abbrev pub invariant-loop-bit : goal.invariant-loop-bit
+invariant-loop-bit l = (l.p + length (left l.options l.bit) ≡ l.pos + length (options_part l.options))
+    × (laid l.out l.p (left l.options l.bit) ≡ laid l.initial.out l.pos (options_part l.options))
