@@ -333,7 +333,7 @@ pub fn located<T: Copy>(found: Result<T, Refusal>, at: usize) -> Result<T, Fault
 
 // The elements of a container: the place past them, or the first fault. Written out where it is called, so that an item takes one call.
 #[inline(always)]
-#[cycle(elements_item_sequence)]
+#[cycle(elements_item_items_sequence)]
 fn elements(s: &[u8], c: Container) -> Result<usize, Fault>
     requires { Lies c s.now }
     ensures { Walked (explicitly s.now) c result }
@@ -342,9 +342,9 @@ fn elements(s: &[u8], c: Container) -> Result<usize, Fault>
     let mut low: u64 = 0;
     loop {
         let head = located(element_head(s, at, c.end, c.unstated, low), at)?;
-        let (tag, past) = match head {
+        let (next, past) = match head {
             Head::End(past) => return Ok(past),
-            Head::Plain { tag, past, .. } => (tag, past),
+            Head::Plain { tag, past, .. } => (tag + 1, past),
             Head::Seq {
                 tag,
                 body,
@@ -357,17 +357,31 @@ fn elements(s: &[u8], c: Container) -> Result<usize, Fault>
                     unstated,
                     ..c
                 };
-                (tag, sequence(s, held)?)
+                (tag + 1, sequence(s, held)?)
             }
         };
         at = past;
-        low = tag + 1;
+        low = next;
     }
 }
 
-// The items of a sequence: the place past them, or the first fault.
-#[cycle(elements_item_sequence)]
+// The items of a sequence: the place past them, or the first fault. One without items is most often met where there are many, and ends here.
+#[inline(always)]
+#[cycle(elements_item_items_sequence)]
 pub fn sequence(s: &[u8], c: Container) -> Result<usize, Fault>
+    requires { Lies c s.now }
+    ensures { WalkedItems (explicitly s.now) c result }
+{
+    let spot = located(item_head(s, c.from, c.end, c.unstated, c.depth), c.from)?;
+    match spot {
+        Spot::Over(past) => Ok(past),
+        Spot::Item { .. } => items(s, c),
+    }
+}
+
+// The same of one that has some.
+#[cycle(elements_item_items_sequence)]
+fn items(s: &[u8], c: Container) -> Result<usize, Fault>
     requires { Lies c s.now }
     ensures { WalkedItems (explicitly s.now) c result }
 {
@@ -394,7 +408,7 @@ pub fn sequence(s: &[u8], c: Container) -> Result<usize, Fault>
 }
 
 // The elements of one item of a sequence in which `c.depth` more items may nest: inside it, one fewer.
-#[cycle(elements_item_sequence)]
+#[cycle(elements_item_items_sequence)]
 fn item(s: &[u8], c: Container) -> Result<usize, Fault>
     requires lies { Lies c s.now }
     requires deep { 0 < c.depth }
