@@ -32,7 +32,10 @@ pub struct Part {
 fn met(found: Option<Attribute>, tag: u64, wanted: u64, passed: Attribute) -> Option<Attribute>
     ensures { result ≡ met_of found tag wanted passed }
 {
-    found.or((tag == wanted).then_some(passed))
+    if tag == wanted && found.is_none() {
+        return Some(passed);
+    }
+    found
 }
 
 // The search in a data set of any length.
